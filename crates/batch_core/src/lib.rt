@@ -9,11 +9,7 @@ mod laws;
 mod reading;
 mod refusals;
 mod run;
-#[cfg(test)]
-mod run_tests;
 mod share;
-#[cfg(test)]
-mod tests;
 mod texts;
 mod workers;
 

@@ -2,7 +2,7 @@
 
 use crate::words::words_of;
 use btf_words::{WordsError, batch_usage_line, read_batch_words};
-use std::test::Fail;
+use std::alloc::Global;
 
 /// Words that are taken, a line each, and the number of workers that they name.
 #[rattlefmt::skip]
@@ -41,34 +41,32 @@ static OTHER_WORDS: [&str; 22] = [
     "-V",
 ];
 
-#[test]
-fn takes_a_number_of_workers_or_nothing(rt: HostRuntime) -> Result<(), Fail> {
-    let alloc = rt.alloc();
-    assert_eq!(rt; read_batch_words(alloc, &[]), Ok(4));
-    for (line, workers) in &TAKEN {
-        let words = words_of(alloc, line)?;
-        assert_eq!(rt;
-            read_batch_words(alloc, words.as_slice()),
-            Ok(*workers),
-            "at {line}"
-        );
+/// Whether words are read as this.
+fn are_read(alloc: Global, words: &[String], wanted: Result<u32, WordsError>) -> bool {
+    read_batch_words(alloc, words) == wanted
+}
+
+/// Whether the words of a line are.
+fn is_read(alloc: Global, line: &str, wanted: Result<u32, WordsError>) -> bool {
+    match words_of(alloc, line) {
+        Err(_) => false,
+        Ok(words) => are_read(alloc, words.as_slice(), wanted),
     }
-    Ok(())
 }
 
 #[test]
-fn refuses_other_words(rt: HostRuntime) -> Result<(), Fail> {
-    let alloc = rt.alloc();
-    let usage = Err(WordsError::Usage);
-    for line in &OTHER_WORDS {
-        let words = words_of(alloc, line)?;
-        assert_eq!(rt;
-            read_batch_words(alloc, words.as_slice()),
-            usage,
-            "at {line}"
-        );
+fn takes_a_number_of_workers_or_nothing(rt: HostRuntime) {
+    assert!(rt; are_read(rt.alloc(), &[], Ok(4)));
+    for (line, workers) in &TAKEN {
+        assert!(rt; is_read(rt.alloc(), line, Ok(*workers)), "{line}");
     }
-    Ok(())
+}
+
+#[test]
+fn refuses_other_words(rt: HostRuntime) {
+    for line in &OTHER_WORDS {
+        assert!(rt; is_read(rt.alloc(), line, Err(WordsError::Usage)), "{line}");
+    }
 }
 
 #[test]

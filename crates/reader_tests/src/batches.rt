@@ -1,43 +1,37 @@
 //! Batches of files, which are read from a source in memory.
 
-ghost use Rattle.std.specs.Prelude.{◌<◌};
-
+use crate::files::source_of;
 use mm_defs::Kind;
 use mm_frames::{BatchError, read_files};
 use mm_reader::Input;
+use sp_ids::OutOfMemory;
 use sp_ports::MemSource;
-use std::alloc::{AllocError, Global};
+use std::alloc::Global;
 use std::test::Fail;
 
-/// The files of a batch, in pieces of so many bytes, from a source some of whose calls fail.
+/// The files of a source, where the input may use so many bytes.
+fn read_from(
+    alloc: Global,
+    source: &mut MemSource,
+    limit: u64,
+) -> Result<Vec<Vec<u8>>, BatchError> {
+    match Input::new(alloc, limit) {
+        Err(_) => Err(BatchError::OutOfMemory),
+        Ok(mut input) => read_files(alloc, &mut input, source),
+    }
+}
+
+/// The files of a batch in pieces of so many bytes.
 fn files(
     alloc: Global,
     bytes: &[u8],
     piece: usize,
-    failing: &[u64],
     limit: u64,
-) -> Result<Result<Vec<Vec<u8>>, BatchError>, AllocError>
-    requires { 0 < piece }
-{
-    let mut source = MemSource::new(bytes.to_vec(alloc)?, piece, failing.to_vec(alloc)?);
-    let mut input = match Input::new(alloc, limit) {
-        Err(_) => return Ok(Err(BatchError::OutOfMemory)),
-        Ok(input) => input,
-    };
-    Ok(read_files(alloc, &mut input, &mut source))
-}
-
-/// How a batch is refused.
-fn refused(
-    alloc: Global,
-    bytes: &[u8],
-    piece: usize,
-    failing: &[u64],
-    limit: u64,
-) -> Result<Option<BatchError>, AllocError>
-    requires { 0 < piece }
-{
-    Ok(files(alloc, bytes, piece, failing, limit)?.err())
+) -> Result<Vec<Vec<u8>>, BatchError> {
+    match source_of(alloc, bytes, piece, &[]) {
+        Err(_) => Err(BatchError::OutOfMemory),
+        Ok(mut source) => read_from(alloc, &mut source, limit),
+    }
 }
 
 /// Batches and their files. The last may use the bytes of its batch alone.
@@ -49,18 +43,41 @@ static GOOD: [(&[u8], u64, &[&[u8]]); 4] = [
     (b"file 4\nabcd", 11, &[b"abcd"]),
 ];
 
-#[test]
-fn files_are_read(rt: HostRuntime) -> Result<(), Fail> {
+/// Whether these are the files.
+fn are_files(found: &[Vec<u8>], wanted: &[&[u8]]) -> bool {
+    for (at, file) in wanted.iter().enumerate() {
+        match found.get(at) {
+            Some(read) => {
+                if read.as_slice() != *file {
+                    return false;
+                }
+            }
+            None => return false,
+        }
+    }
+    found.len() == wanted.len()
+}
+
+/// Whether a batch has these files, whatever the pieces in which it comes.
+fn has_files(alloc: Global, bytes: &[u8], limit: u64, wanted: &[&[u8]]) -> bool {
     for piece in [1, 7, 4096] {
-        for (bytes, limit, wanted) in &GOOD {
-            let read = files(rt.alloc(), bytes, piece, &[], *limit)??;
-            assert_eq!(rt; read.len(), wanted.len());
-            for (file, found) in wanted.iter().zip(&read) {
-                assert_eq!(rt; found.as_slice(), *file);
+        match files(alloc, bytes, piece, limit) {
+            Err(_) => return false,
+            Ok(found) => {
+                if !are_files(found.as_slice(), wanted) {
+                    return false;
+                }
             }
         }
     }
-    Ok(())
+    true
+}
+
+#[test]
+fn files_are_read(rt: HostRuntime) {
+    for (bytes, limit, wanted) in &GOOD {
+        assert!(rt; has_files(rt.alloc(), bytes, *limit, wanted));
+    }
 }
 
 /// Batches that are refused, the bytes that the input may use, and why.
@@ -93,34 +110,61 @@ static BAD: [(&[u8], u64, BatchError); 24] = [
     (b"none\nfile 0\n", 5, BatchError::Malformed { file: 1, kind: Kind::BatchHeader }),
 ];
 
-#[test]
-fn bad_frames_are_known(rt: HostRuntime) -> Result<(), Fail> {
-    for piece in [1, 7, 4096] {
-        for (bytes, limit, error) in &BAD {
-            let found = refused(rt.alloc(), bytes, piece, &[], *limit)?;
-            assert_eq!(rt; found, Some(*error));
-        }
+/// Whether a batch is refused for this.
+fn is_refused(answer: Result<Vec<Vec<u8>>, BatchError>, error: BatchError) -> bool {
+    match answer {
+        Err(found) => found == error,
+        Ok(_) => false,
     }
-    Ok(())
 }
 
-// A file too many is told before its bytes are too many.
+/// Whether it is, whatever the pieces in which it comes.
+fn is_bad_in_pieces(alloc: Global, bytes: &[u8], limit: u64, error: BatchError) -> bool {
+    for piece in [1, 7, 4096] {
+        if !is_refused(files(alloc, bytes, piece, limit), error) {
+            return false;
+        }
+    }
+    true
+}
+
 #[test]
-fn files_are_limited_in_number(rt: HostRuntime) -> Result<(), Fail> {
-    let alloc = rt.alloc();
+fn bad_frames_are_known(rt: HostRuntime) {
+    for (bytes, limit, error) in &BAD {
+        assert!(rt; is_bad_in_pieces(rt.alloc(), bytes, *limit, *error));
+    }
+}
+
+/// The frames of as many empty files as a batch may have.
+fn most_frames(alloc: Global) -> Result<Vec<u8>, OutOfMemory> {
     let mut bytes = Vec::new(alloc);
     for _ in 0..65536 {
         bytes.extend_from_slice(b"file 0\n")?;
     }
-    assert_eq!(rt; files(alloc, &bytes, 4096, &[], 500000)??.len(), 65536);
+    Ok(bytes)
+}
+
+/// Whether a batch has so many files.
+fn has_count(alloc: Global, bytes: &[u8], count: usize) -> bool {
+    match files(alloc, bytes, 4096, 500000) {
+        Err(_) => false,
+        Ok(found) => found.len() == count,
+    }
+}
+
+/// What is told of a batch with one file more.
+const ONE_MORE: BatchError = BatchError::Limit {
+    file: 65537,
+    kind: Kind::Files,
+};
+
+// A file too many is told before its bytes are too many.
+#[test]
+fn files_are_limited_in_number(rt: HostRuntime) -> Result<(), Fail> {
+    let mut bytes = most_frames(rt.alloc())?;
+    assert!(rt; has_count(rt.alloc(), bytes.as_slice(), 65536));
     bytes.extend_from_slice(b"file 1073741825\n")?;
-    assert_eq!(rt;
-        refused(alloc, &bytes, 4096, &[], 500000)?,
-        Some(BatchError::Limit {
-            file: 65537,
-            kind: Kind::Files
-        })
-    );
+    assert!(rt; is_refused(files(rt.alloc(), bytes.as_slice(), 4096, 500000), ONE_MORE));
     Ok(())
 }
 
@@ -137,11 +181,17 @@ static FAILED: [(&[u8], u64, BatchError); 7] = [
     (b"none\n\n\nfile 0\n", 1, BatchError::Malformed { file: 1, kind: Kind::BatchHeader }),
 ];
 
-#[test]
-fn failed_reads_are_told(rt: HostRuntime) -> Result<(), Fail> {
-    for (bytes, call, error) in &FAILED {
-        let found = refused(rt.alloc(), bytes, 7, &[*call], 1000)?;
-        assert_eq!(rt; found, Some(*error));
+/// Whether a batch in pieces of seven bytes is refused for this where the call fails.
+fn is_told(alloc: Global, bytes: &[u8], call: u64, error: BatchError) -> bool {
+    match source_of(alloc, bytes, 7, &[call]) {
+        Err(_) => false,
+        Ok(mut source) => is_refused(read_from(alloc, &mut source, 1000), error),
     }
-    Ok(())
+}
+
+#[test]
+fn failed_reads_are_told(rt: HostRuntime) {
+    for (bytes, call, error) in &FAILED {
+        assert!(rt; is_told(rt.alloc(), bytes, *call, *error));
+    }
 }

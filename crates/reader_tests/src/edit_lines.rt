@@ -1,57 +1,75 @@
 //! Edit lines behind a matrix, which are read from a source in memory.
 
-ghost use Rattle.std.specs.Prelude.{◌<◌, ◌≤◌, length, None, IfOk};
+ghost use Rattle.std.specs.Prelude.{None};
 
+use crate::files::source_of;
 use mm_defs::{End, Kind, ReadError};
 use mm_frames::{Edit, read_edits};
 use mm_reader::{Input, read_matrix};
-use sp_ids::{Col, MAX_INPUT_BYTES, Row};
+use sp_ids::{Col, MAX_INPUT_BYTES, OutOfMemory, Row};
 use sp_ports::{Failed, MemSource, Source};
-use std::alloc::{AllocError, Global};
-use std::test::Fail;
+use std::alloc::Global;
 
-/// The edits behind a matrix of two rows and three columns with one entry, in pieces of so many
-/// bytes.
-fn edits(
-    alloc: Global,
-    lines: &[u8],
-    piece: usize,
-    limit: u64,
-) -> Result<Result<Vec<Edit>, ReadError>, AllocError>
-    requires { 0 < piece }
-{
-    let mut bytes = b"%%MatrixMarket matrix coordinate pattern general\n2 3 1\n1 1\n".to_vec(
-        alloc,
-    )?;
+/// A matrix of two rows and three columns with one entry, and these lines behind it.
+fn session_of(alloc: Global, lines: &[u8]) -> Result<Vec<u8>, OutOfMemory> {
+    let file = b"%%MatrixMarket matrix coordinate pattern general\n2 3 1\n1 1\n";
+    let mut bytes = file.to_vec(alloc)?;
     bytes.extend_from_slice(lines)?;
-    let mut source = MemSource::new(bytes, piece, Vec::new(alloc));
-    let mut input = match Input::new(alloc, limit) {
-        Err(_) => return Ok(Err(ReadError::OutOfMemory)),
-        Ok(input) => input,
+    Ok(bytes)
+}
+
+/// The edits behind the matrix of a source.
+fn edits_from(alloc: Global, source: &mut MemSource, limit: u64) -> Result<Vec<Edit>, ReadError> {
+    let Ok(mut input) = Input::new(alloc, limit) else {
+        return Err(ReadError::OutOfMemory);
     };
-    match read_matrix(alloc, &mut input, &mut source, End::LastEntry) {
-        Err(error) => Ok(Err(error)),
-        Ok(_) => Ok(read_edits(alloc, &mut input, &mut source, 2, 3)),
+    match read_matrix(alloc, &mut input, source, End::LastEntry) {
+        Err(error) => Err(error),
+        Ok(_) => read_edits(alloc, &mut input, source, 2, 3),
+    }
+}
+
+/// The edits behind that matrix, in pieces of so many bytes.
+fn edits(alloc: Global, session: &[u8], piece: usize, limit: u64) -> Result<Vec<Edit>, ReadError> {
+    match source_of(alloc, session, piece, &[]) {
+        Err(_) => Err(ReadError::OutOfMemory),
+        Ok(mut source) => edits_from(alloc, &mut source, limit),
+    }
+}
+
+/// Whether a session has these edits, whatever the pieces in which it comes.
+fn has_edits(alloc: Global, session: &[u8], wanted: &[Edit]) -> bool {
+    for piece in [1, 7, 4096] {
+        match edits(alloc, session, piece, 1000) {
+            Err(_) => return false,
+            Ok(found) => {
+                if found.as_slice() != wanted {
+                    return false;
+                }
+            }
+        }
+    }
+    true
+}
+
+/// Whether the lines are read as these edits.
+fn are_read(alloc: Global, lines: &[u8], wanted: &[Edit]) -> bool {
+    match session_of(alloc, lines) {
+        Err(_) => false,
+        Ok(session) => has_edits(alloc, session.as_slice(), wanted),
     }
 }
 
 #[test]
-fn edit_lines_are_read(rt: HostRuntime) -> Result<(), Fail> {
+fn edit_lines_are_read(rt: HostRuntime) {
     let lines = b"set 2 3\n\n% c\n clear\t+1 001 \r\nreport\nset 1 1";
-    for piece in [1, 7, 4096] {
-        let read = edits(rt.alloc(), lines, piece, 1000)??;
-        assert_eq!(rt;
-            read.as_slice(),
-            [
-                Edit::Set(Row(1), Col(2)),
-                Edit::Clear(Row(0), Col(0)),
-                Edit::Report,
-                Edit::Set(Row(0), Col(0)),
-            ]
-            .as_slice()
-        );
-    }
-    Ok(())
+    let wanted = [
+        Edit::Set(Row(1), Col(2)),
+        Edit::Clear(Row(0), Col(0)),
+        Edit::Report,
+        Edit::Set(Row(0), Col(0)),
+    ];
+    assert!(rt; are_read(rt.alloc(), lines, &wanted));
 }
 
 /// Edit lines that are refused, the bytes that the input may use, and why. The matrix has 59 bytes.
@@ -74,15 +92,37 @@ static BAD: [(&[u8], u64, ReadError); 14] = [
     (b"report\nset 9 9\n", 74, ReadError::Malformed { line: 5, kind: Kind::RowRange }),
 ];
 
-#[test]
-fn bad_edit_lines_are_known(rt: HostRuntime) -> Result<(), Fail> {
+/// Whether edits are refused for this.
+fn is_refused(answer: Result<Vec<Edit>, ReadError>, error: ReadError) -> bool {
+    match answer {
+        Err(found) => found == error,
+        Ok(_) => false,
+    }
+}
+
+/// Whether a session is, whatever the pieces in which it comes.
+fn is_bad_in_pieces(alloc: Global, session: &[u8], limit: u64, error: ReadError) -> bool {
     for piece in [1, 7, 4096] {
-        for (lines, limit, error) in &BAD {
-            let answer = edits(rt.alloc(), lines, piece, *limit)?;
-            assert_eq!(rt; answer.err(), Some(*error));
+        if !is_refused(edits(alloc, session, piece, limit), error) {
+            return false;
         }
     }
-    Ok(())
+    true
+}
+
+/// Whether these lines are.
+fn are_bad(alloc: Global, lines: &[u8], limit: u64, error: ReadError) -> bool {
+    match session_of(alloc, lines) {
+        Err(_) => false,
+        Ok(session) => is_bad_in_pieces(alloc, session.as_slice(), limit, error),
+    }
+}
+
+#[test]
+fn bad_edit_lines_are_known(rt: HostRuntime) {
+    for (lines, limit, error) in &BAD {
+        assert!(rt; are_bad(rt.alloc(), lines, *limit, *error));
+    }
 }
 
 /// A source that has no end and gives one edit line after another. It does not tell its bytes.
@@ -105,16 +145,22 @@ impl Source for Reports {
     }
 }
 
-// 16,777,216 edit lines are taken, and not one more.
-#[test]
-fn edit_lines_are_limited_in_number(rt: HostRuntime) -> Result<(), Fail> {
+/// What is told of one edit line more than there may be.
+const ONE_MORE: ReadError = ReadError::Limit {
+    line: 16_777_217,
+    kind: Kind::Edits,
+};
+
+/// Whether 16,777,216 edit lines are taken, and not one more.
+fn are_limited(alloc: Global) -> bool {
     let mut source = Reports { given: 0 };
-    let mut input = Input::new(rt.alloc(), MAX_INPUT_BYTES)?;
-    let answer = read_edits(rt.alloc(), &mut input, &mut source, 2, 3);
-    let many = ReadError::Limit {
-        line: 16_777_217,
-        kind: Kind::Edits,
-    };
-    assert_eq!(rt; answer.err(), Some(many));
-    Ok(())
+    match Input::new(alloc, MAX_INPUT_BYTES) {
+        Err(_) => false,
+        Ok(mut input) => { is_refused(read_edits(alloc, &mut input, &mut source, 2, 3), ONE_MORE) }
+    }
+}
+
+#[test]
+fn edit_lines_are_limited_in_number(rt: HostRuntime) {
+    assert!(rt; are_limited(rt.alloc()));
 }

@@ -1,13 +1,10 @@
 //! Files of matrices, which are read from a source in memory.
 
-ghost use Rattle.std.specs.Prelude.{◌<◌};
-
 use mm_defs::{End, Kind, ReadError};
 use mm_reader::{Input, next_byte, read_matrix, read_rest};
-use sp_ids::{Col, Field, Row, Triples};
+use sp_ids::{Col, Field, OutOfMemory, Row, Triples};
 use sp_ports::{Failed, MemSource, Source};
-use std::alloc::{AllocError, Global};
-use std::process::Abort;
+use std::alloc::Global;
 use std::test::Fail;
 
 /// One entry, in 59 bytes.
@@ -251,30 +248,37 @@ static BAD: [(&[u8], ReadError); 56] = [
         ReadError::Malformed { line: 3, kind: Kind::Trailing }),
 ];
 
-/// Reads a whole file that comes in pieces of so many bytes.
-fn read(alloc: Global, bytes: &[u8], piece: usize, limit: u64) -> Result<Triples, ReadError>
-    requires { 0 < piece }
-{
-    let mut source = MemSource::new(copied(alloc, bytes)?, piece, Vec::new(alloc));
-    let mut input = match Input::new(alloc, limit) {
-        Err(_) => return Err(ReadError::OutOfMemory),
-        Ok(input) => input,
-    };
-    read_matrix(alloc, &mut input, &mut source, End::File)
+/// A source of these bytes that comes in pieces of so many, one at least, and some of whose calls
+/// fail.
+pub(crate) fn source_of(
+    alloc: Global,
+    bytes: &[u8],
+    piece: usize,
+    failing: &[u64],
+) -> Result<MemSource, OutOfMemory> {
+    let failing = failing.to_vec(alloc)?;
+    let bytes = bytes.to_vec(alloc)?;
+    Ok(MemSource::new(bytes, piece.max(1), failing))
 }
 
-fn copied(alloc: Global, bytes: &[u8]) -> Result<Vec<u8>, ReadError> {
-    match bytes.to_vec(alloc) {
+/// Reads the matrix of a source.
+fn read_from(
+    alloc: Global,
+    source: &mut MemSource,
+    limit: u64,
+    end: End,
+) -> Result<Triples, ReadError> {
+    match Input::new(alloc, limit) {
         Err(_) => Err(ReadError::OutOfMemory),
-        Ok(bytes) => Ok(bytes),
+        Ok(mut input) => read_matrix(alloc, &mut input, source, end),
     }
 }
 
-/// What was refused, if it was.
-fn refusal(answer: Result<Triples, ReadError>) -> Option<ReadError> {
-    match answer {
-        Err(error) => Some(error),
-        Ok(_) => None,
+/// Reads a whole file that comes in pieces of so many bytes.
+fn read(alloc: Global, bytes: &[u8], piece: usize, limit: u64) -> Result<Triples, ReadError> {
+    match source_of(alloc, bytes, piece, &[]) {
+        Err(_) => Err(ReadError::OutOfMemory),
+        Ok(mut source) => read_from(alloc, &mut source, limit, End::File),
     }
 }
 
@@ -296,71 +300,153 @@ fn values(triples: &Triples) -> &[i64] {
     &[]
 }
 
-/// This is what is read of an example's file.
-fn are_read<R: Abort>(rt: &R, example: &Example, triples: &Triples) {
-    assert_eq!(rt; triples.field(), example.field);
-    assert_eq!(rt; (triples.rows(), triples.cols()), example.sizes);
-    assert!(rt; are_places(triples.places(), example.places));
-    assert_eq!(rt; values(triples), example.values);
+/// Whether this is what is to be read of an example's file.
+fn is_example(example: &Example, triples: &Triples) -> bool {
+    triples.field() == example.field
+        && (triples.rows(), triples.cols()) == example.sizes
+        && are_places(triples.places(), example.places)
+        && values(triples) == example.values
+}
+
+/// Whether it is read where the file comes in pieces of so many bytes.
+fn is_read(alloc: Global, example: &Example, piece: usize) -> bool {
+    match read(alloc, example.file, piece, 1000) {
+        Err(_) => false,
+        Ok(triples) => is_example(example, &triples),
+    }
+}
+
+/// Whether it is, whatever the pieces.
+fn is_read_in_pieces(alloc: Global, example: &Example) -> bool {
+    for piece in [1, 2, 3, 7, 59, 4096] {
+        if !is_read(alloc, example, piece) {
+            return false;
+        }
+    }
+    true
 }
 
 #[test]
-fn pieces_change_nothing(rt: HostRuntime) -> Result<(), Fail> {
+fn pieces_change_nothing(rt: HostRuntime) {
     for example in &GOOD {
-        for piece in [1, 2, 3, 7, 59, 4096] {
-            let triples = read(rt.alloc(), example.file, piece, 1000)?;
-            are_read(&rt, example, &triples);
+        assert!(rt; is_read_in_pieces(rt.alloc(), example));
+    }
+}
+
+/// Whether a matrix was refused for this.
+fn is_refused(answer: Result<Triples, ReadError>, error: ReadError) -> bool {
+    match answer {
+        Err(found) => found == error,
+        Ok(_) => false,
+    }
+}
+
+/// Whether a file is, whatever the pieces in which it comes.
+fn is_bad_in_pieces(alloc: Global, file: &[u8], error: ReadError) -> bool {
+    for piece in [1, 2, 3, 7, 4096] {
+        if !is_refused(read(alloc, file, piece, 1000), error) {
+            return false;
         }
     }
-    Ok(())
+    true
 }
 
 #[test]
-fn the_first_bad_line_is_reported(rt: HostRuntime) -> Result<(), Fail> {
+fn the_first_bad_line_is_reported(rt: HostRuntime) {
     for (file, error) in &BAD {
-        for piece in [1, 2, 3, 7, 4096] {
-            let answer = read(rt.alloc(), file, piece, 1000);
-            assert_eq!(rt; refusal(answer), Some(*error));
-        }
+        assert!(rt; is_bad_in_pieces(rt.alloc(), file, *error));
     }
-    Ok(())
 }
 
-// Of 59 bytes 58 may be used, and one more is taken.
+/// A source, where its matrix is to end and the bytes that the input may use; why the matrix is
+/// refused, or that it is the one of one entry; and the lines and the bytes ahead that the input
+/// then tells.
+struct Reading {
+    bytes: &'static [u8],
+    piece: usize,
+    failing: &'static [u64],
+    end: End,
+    limit: u64,
+    refused: Option<ReadError>,
+    told: (u64, usize),
+}
+
+/// Whether the matrix is the one of one entry, or it was refused for this.
+fn is_wanted(answer: Result<Triples, ReadError>, refused: Option<ReadError>) -> bool {
+    match answer {
+        Err(found) => refused == Some(found),
+        Ok(triples) => refused.is_none() && are_places(triples.places(), &[(0, 0)]),
+    }
+}
+
+/// Whether a matrix is read of the source as it is to be, and the input may be used again where it
+/// was not refused.
+fn goes_over(alloc: Global, reading: &Reading, source: &mut MemSource) -> bool {
+    let Ok(mut input) = Input::new(alloc, reading.limit) else {
+        return false;
+    };
+    let answer = read_matrix(alloc, &mut input, source, reading.end);
+    is_wanted(answer, reading.refused)
+        && (input.lines(), input.ahead()) == reading.told
+        && input.is_good() == reading.refused.is_none()
+}
+
+/// Whether it is read so of a source that is made for it.
+fn goes(alloc: Global, reading: &Reading) -> bool {
+    match source_of(alloc, reading.bytes, reading.piece, reading.failing) {
+        Err(_) => false,
+        Ok(mut source) => goes_over(alloc, reading, &mut source),
+    }
+}
+
+/// The matrix of one entry, of whose 59 bytes 58 may be used. One more is taken.
+#[rattlefmt::skip]
+static PAST_THE_LIMIT: [Reading; 3] = [
+    Reading {
+        bytes: SMALLEST, piece: 1, failing: &[], end: End::File, limit: 58,
+        refused: Some(ReadError::TooLong), told: (2, 1),
+    },
+    Reading {
+        bytes: SMALLEST, piece: 10, failing: &[], end: End::File, limit: 58,
+        refused: Some(ReadError::TooLong), told: (2, 1),
+    },
+    Reading {
+        bytes: SMALLEST, piece: 59, failing: &[], end: End::File, limit: 58,
+        refused: Some(ReadError::TooLong), told: (2, 1),
+    },
+];
+
+/// Whether a whole file that may use so many bytes has one entry.
+fn has_one_entry(alloc: Global, bytes: &[u8], limit: u64) -> bool {
+    match read(alloc, bytes, 10, limit) {
+        Err(_) => false,
+        Ok(triples) => triples.len() == 1,
+    }
+}
+
 #[test]
-fn the_limit_counts_bytes(rt: HostRuntime) -> Result<(), Fail> {
-    let alloc = rt.alloc();
-    for piece in [1, 10, 59] {
-        let mut source = MemSource::new(SMALLEST.to_vec(alloc)?, piece, Vec::new(alloc));
-        let mut input = Input::new(alloc, 58)?;
-        let answer = read_matrix(alloc, &mut input, &mut source, End::File);
-        assert_eq!(rt; refusal(answer), Some(ReadError::TooLong));
-        assert_eq!(rt; (input.lines(), input.ahead()), (2, 1));
-        assert_eq!(rt; input.is_good(), false);
+fn the_limit_counts_bytes(rt: HostRuntime) {
+    for reading in &PAST_THE_LIMIT {
+        assert!(rt; goes(rt.alloc(), reading));
     }
-    assert_eq!(rt; read(alloc, SMALLEST, 10, 59)?.len(), 1);
-    Ok(())
+    assert!(rt; has_one_entry(rt.alloc(), SMALLEST, 59));
 }
 
-// Of 59 bytes 53 are taken.
+/// Whether of the 59 bytes in one piece 53 are taken where 52 may be used.
+fn is_one_more(alloc: Global, source: &mut MemSource) -> bool {
+    let answer = read_from(alloc, source, 52, End::File);
+    is_refused(answer, ReadError::TooLong) && source.read(&mut [0; 16]) == Ok(6)
+}
+
 #[test]
 fn one_byte_past_the_limit_is_taken(rt: HostRuntime) -> Result<(), Fail> {
-    let alloc = rt.alloc();
-    let mut source = MemSource::new(SMALLEST.to_vec(alloc)?, 59, Vec::new(alloc));
-    let mut input = Input::new(alloc, 52)?;
-    let answer = read_matrix(alloc, &mut input, &mut source, End::File);
-    assert_eq!(rt; refusal(answer), Some(ReadError::TooLong));
-    assert_eq!(rt; source.read(&mut [0; 16]), Ok(6));
+    let mut source = source_of(rt.alloc(), SMALLEST, 59, &[])?;
+    assert!(rt; is_one_more(rt.alloc(), &mut source));
     Ok(())
-}
-
-/// So many times the same byte.
-fn filled(alloc: Global, byte: u8, count: usize) -> Result<Vec<u8>, AllocError> {
-    Vec::from_elem(alloc, byte, count)
 }
 
 /// A pattern file of one row and one column whose entry line these pieces make.
-fn with_entry(alloc: Global, pieces: &[&[u8]]) -> Result<Vec<u8>, AllocError> {
+fn with_entry(alloc: Global, pieces: &[&[u8]]) -> Result<Vec<u8>, OutOfMemory> {
     let mut bytes = b"%%MatrixMarket matrix coordinate pattern general\n1 1 1\n".to_vec(alloc)?;
     for piece in pieces {
         bytes.extend_from_slice(piece)?;
@@ -368,43 +454,47 @@ fn with_entry(alloc: Global, pieces: &[&[u8]]) -> Result<Vec<u8>, AllocError> {
     Ok(bytes)
 }
 
-#[test]
-fn lines_may_be_longer_than_the_buffer(rt: HostRuntime) -> Result<(), Fail> {
-    let alloc = rt.alloc();
-    let blanks = filled(alloc, b' ', 70_000)?;
-    let zeros = filled(alloc, b'0', 70_000)?;
-    for line in [
-        [
-            b"1".as_slice(),
-            blanks.as_slice(),
-            b"1".as_slice(),
-            b"\n".as_slice(),
-        ],
-        [
-            zeros.as_slice(),
-            b"1 ".as_slice(),
-            zeros.as_slice(),
-            b"1\n".as_slice(),
-        ],
-    ] {
-        let triples = read(alloc, &with_entry(alloc, &line)?, 4096, 1_000_000)?;
-        assert_eq!(rt; triples.places(), [(Row(0), Col(0))].as_slice());
+/// Whether the file whose entry line these pieces make has one entry.
+fn is_entry(alloc: Global, pieces: &[&[u8]]) -> bool {
+    match with_entry(alloc, pieces) {
+        Err(_) => false,
+        Ok(bytes) => has_only_place(alloc, bytes.as_slice()),
     }
-    Ok(())
+}
+
+/// Whether a file of up to a million bytes has the first place alone.
+fn has_only_place(alloc: Global, bytes: &[u8]) -> bool {
+    is_wanted(read(alloc, bytes, 4096, 1_000_000), None)
+}
+
+/// So many times the same byte.
+fn filled(alloc: Global, byte: u8, count: usize) -> Result<Vec<u8>, OutOfMemory> {
+    Ok(Vec::from_elem(alloc, byte, count)?)
+}
+
+/// Whether so many blanks may stand between two numbers, and so many zeros before each.
+fn may_be_long(alloc: Global, blanks: &[u8], zeros: &[u8]) -> bool {
+    is_entry(alloc, &[b"1", blanks, b"1", b"\n"]) && is_entry(alloc, &[zeros, b"1 ", zeros, b"1\n"])
 }
 
 #[test]
-fn what_follows_the_last_entry_is_left(rt: HostRuntime) -> Result<(), Fail> {
-    let alloc = rt.alloc();
-    let mut bytes = SMALLEST.to_vec(alloc)?;
-    bytes.extend_from_slice(b"% c\nbtf 1\n")?;
-    let mut source = MemSource::new(bytes, 61, Vec::new(alloc));
-    let mut input = Input::new(alloc, 1000)?;
-    let triples = read_matrix(alloc, &mut input, &mut source, End::LastEntry)?;
-    assert_eq!(rt; triples.places(), [(Row(0), Col(0))].as_slice());
-    assert_eq!(rt; (input.lines(), input.ahead()), (3, 2));
-    assert_eq!(rt; input.is_good(), true);
+fn lines_may_be_longer_than_the_buffer(rt: HostRuntime) -> Result<(), Fail> {
+    let blanks = filled(rt.alloc(), b' ', 70_000)?;
+    let zeros = filled(rt.alloc(), b'0', 70_000)?;
+    assert!(rt; may_be_long(rt.alloc(), blanks.as_slice(), zeros.as_slice()));
     Ok(())
+}
+
+#[rattlefmt::skip]
+static FOLLOWED_ENTRY: Reading = Reading {
+    bytes: b"%%MatrixMarket matrix coordinate pattern general\n1 1 1\n1 1\n% c\nbtf 1\n",
+    piece: 61, failing: &[], end: End::LastEntry, limit: 1000,
+    refused: None, told: (3, 2),
+};
+
+#[test]
+fn what_follows_the_last_entry_is_left(rt: HostRuntime) {
+    assert!(rt; goes(rt.alloc(), &FOLLOWED_ENTRY));
 }
 
 /// Files with ten more bytes behind their last entry or value line, or behind a size line that asks
@@ -416,114 +506,176 @@ static FOLLOWED: [&[u8]; 3] = [
     b"%%MatrixMarket matrix array integer skew-symmetric\n1 1\n% c\nbtf 1\n",
 ];
 
-/// What follows the matrix of a source.
-fn rest_of(alloc: Global, source: &mut MemSource, end: End) -> Result<Vec<u8>, Fail> {
-    let mut input = Input::new(alloc, 100)?;
-    let _triples = read_matrix(alloc, &mut input, source, end)?;
-    Ok(read_rest(alloc, &mut input, source)?)
+/// Whether these bytes are what follows the matrix of a source.
+fn is_followed_by(alloc: Global, source: &mut MemSource, end: End, rest: &[u8]) -> bool {
+    let Ok(mut input) = Input::new(alloc, 100) else {
+        return false;
+    };
+    match read_matrix(alloc, &mut input, source, end) {
+        Err(_) => false,
+        Ok(_) => match read_rest(alloc, &mut input, source) {
+            Err(_) => false,
+            Ok(found) => found.as_slice() == rest,
+        },
+    }
 }
 
-#[test]
-fn the_rest_is_all_that_follows(rt: HostRuntime) -> Result<(), Fail> {
-    let alloc = rt.alloc();
-    for file in &FOLLOWED {
-        for piece in [1, 61, 100] {
-            let mut source = MemSource::new(file.to_vec(alloc)?, piece, Vec::new(alloc));
-            let rest = rest_of(alloc, &mut source, End::LastEntry)?;
-            assert_eq!(rt; rest.as_slice(), b"% c\nbtf 1\n".as_slice());
+/// Whether they are what follows the last line of a file, whatever the pieces.
+fn has_rest(alloc: Global, file: &[u8], rest: &[u8]) -> bool {
+    for piece in [1, 61, 100] {
+        let Ok(mut source) = source_of(alloc, file, piece, &[]) else {
+            return false;
+        };
+        if !is_followed_by(alloc, &mut source, End::LastEntry, rest) {
+            return false;
         }
     }
-    Ok(())
+    true
 }
 
-// The first 50 bytes have one LF, and the second call fails.
 #[test]
-fn lines_are_counted_at_a_failed_read(rt: HostRuntime) -> Result<(), Fail> {
-    let alloc = rt.alloc();
-    let mut source = MemSource::new(SMALLEST.to_vec(alloc)?, 50, [1].to_vec(alloc)?);
-    let mut input = Input::new(alloc, 1000)?;
-    let answer = read_matrix(alloc, &mut input, &mut source, End::File);
-    assert_eq!(rt; refusal(answer), Some(ReadError::ReadFault));
-    assert_eq!(rt; (input.lines(), input.ahead()), (1, 0));
-    Ok(())
-}
-
-// The second call gives no bytes, and the third would fail. The last line has an LF or none.
-#[test]
-fn nothing_is_asked_behind_the_end(rt: HostRuntime) -> Result<(), Fail> {
-    let alloc = rt.alloc();
-    for (end, length) in [(End::File, 59), (End::File, 58), (End::LastEntry, 58)] {
-        let bytes = SMALLEST[..length].to_vec(alloc)?;
-        let mut source = MemSource::new(bytes, 100, [2].to_vec(alloc)?);
-        assert_eq!(rt; rest_of(alloc, &mut source, end)?.len(), 0);
-        assert_eq!(rt; source.failed_calls(), 0);
-        assert_eq!(rt; source.read(&mut [0; 1]), Err(Failed));
+fn the_rest_is_all_that_follows(rt: HostRuntime) {
+    for file in &FOLLOWED {
+        assert!(rt; has_rest(rt.alloc(), file, b"% c\nbtf 1\n"));
     }
-    Ok(())
+}
+
+/// The first 50 bytes have one LF, and the second call fails.
+static FAILED_READ: Reading = Reading {
+    bytes: SMALLEST,
+    piece: 50,
+    failing: &[1],
+    end: End::File,
+    limit: 1000,
+    refused: Some(ReadError::ReadFault),
+    told: (1, 0),
+};
+
+#[test]
+fn lines_are_counted_at_a_failed_read(rt: HostRuntime) {
+    assert!(rt; goes(rt.alloc(), &FAILED_READ));
+}
+
+/// Files whose last line has an LF or none.
+#[rattlefmt::skip]
+static ENDED: [(End, &[u8]); 3] = [
+    (End::File, SMALLEST),
+    (End::File, b"%%MatrixMarket matrix coordinate pattern general\n1 1 1\n1 1"),
+    (End::LastEntry, b"%%MatrixMarket matrix coordinate pattern general\n1 1 1\n1 1"),
+];
+
+/// Whether nothing follows, and the call of the source that fails was not made before it is made
+/// here.
+fn is_not_asked(alloc: Global, source: &mut MemSource, end: End) -> bool {
+    is_followed_by(alloc, source, end, b"")
+        && source.failed_calls() == 0
+        && source.read(&mut [0; 1]) == Err(Failed)
+}
+
+/// Whether that holds of a file whose second call gives no bytes and whose third would fail.
+fn has_ended(alloc: Global, end: End, file: &[u8]) -> bool {
+    match source_of(alloc, file, 100, &[2]) {
+        Err(_) => false,
+        Ok(mut source) => is_not_asked(alloc, &mut source, end),
+    }
+}
+
+#[test]
+fn nothing_is_asked_behind_the_end(rt: HostRuntime) {
+    for (end, file) in &ENDED {
+        assert!(rt; has_ended(rt.alloc(), *end, file));
+    }
+}
+
+/// Whether a source has more than four bytes, and its next call fails.
+fn is_past_four(alloc: Global, source: &mut MemSource) -> bool {
+    let Ok(mut input) = Input::new(alloc, 4) else {
+        return false;
+    };
+    match read_rest(alloc, &mut input, source) {
+        Err(error) => error == ReadError::TooLong && source.read(&mut [0; 1]) == Err(Failed),
+        Ok(_) => false,
+    }
 }
 
 // The second call gives the byte past the limit, and the third would fail.
 #[test]
 fn the_rest_asks_no_more_past_the_limit(rt: HostRuntime) -> Result<(), Fail> {
-    let alloc = rt.alloc();
-    let mut source = MemSource::new(b"btf 1\n".to_vec(alloc)?, 100, [2].to_vec(alloc)?);
-    let mut input = Input::new(alloc, 4)?;
-    let answer = read_rest(alloc, &mut input, &mut source);
-    assert_eq!(rt; answer, Err(ReadError::TooLong));
-    assert_eq!(rt; source.read(&mut [0; 1]), Err(Failed));
+    let mut source = source_of(rt.alloc(), b"btf 1\n", 100, &[2])?;
+    assert!(rt; is_past_four(rt.alloc(), &mut source));
     Ok(())
 }
 
-/// A line end comes, and then nothing.
-fn one_byte_comes<R: Abort + AllocGlobal>(rt: &R, source: &mut MemSource) -> Result<(), Fail> {
-    let mut input = Input::new(rt.alloc(), 1)?;
-    let first = next_byte(&mut input, source)?;
-    let end = next_byte(&mut input, source)?;
-    let again = next_byte(&mut input, source)?;
-    assert_eq!(rt; (first, end, again), (Some(b'\n'), None, None));
-    assert_eq!(rt; (input.lines(), input.is_good()), (1, true));
-    Ok(())
+/// Whether a line end comes and then nothing, by calls that do not fail.
+fn is_one_byte(alloc: Global, source: &mut MemSource) -> bool {
+    let Ok(mut input) = Input::new(alloc, 1) else {
+        return false;
+    };
+    let Ok(first) = next_byte(&mut input, source) else {
+        return false;
+    };
+    let Ok(end) = next_byte(&mut input, source) else {
+        return false;
+    };
+    let Ok(again) = next_byte(&mut input, source) else {
+        return false;
+    };
+    (first, end, again) == (Some(b'\n'), None, None)
+        && (input.lines(), input.is_good()) == (1, true)
+        && source.failed_calls() == 0
 }
 
 // The second call gives no bytes, and the third would fail.
 #[test]
 fn bytes_come_one_by_one(rt: HostRuntime) -> Result<(), Fail> {
-    let alloc = rt.alloc();
-    let mut source = MemSource::new(b"\n".to_vec(alloc)?, 2, [2].to_vec(alloc)?);
-    one_byte_comes(&rt, &mut source)?;
-    assert_eq!(rt; source.failed_calls(), 0);
+    let mut source = source_of(rt.alloc(), b"\n", 2, &[2])?;
+    assert!(rt; is_one_byte(rt.alloc(), &mut source));
     Ok(())
 }
 
-/// An `a` comes, and the byte behind it is refused. It is not ahead before.
-fn second_is_refused<R: Abort + AllocGlobal>(
-    rt: &R,
-    source: &mut MemSource,
+/// A source of `ab` in pieces of so many bytes, with a call that fails; the bytes that the input
+/// may use; and why the second byte is refused.
+struct Second {
+    piece: usize,
+    failing: [u64; 1],
     limit: u64,
     error: ReadError,
-) -> Result<(), Fail> {
-    let mut input = Input::new(rt.alloc(), limit)?;
-    assert_eq!(rt; next_byte(&mut input, source)?, Some(b'a'));
-    assert_eq!(rt; input.ahead(), 0);
-    assert_eq!(rt; next_byte(&mut input, source), Err(error));
-    assert_eq!(rt; input.is_good(), false);
-    Ok(())
 }
 
-// The second byte is past the limit, whether the source would give it with the first or alone, or
-// its call fails.
-#[test]
-fn a_next_byte_is_refused(rt: HostRuntime) -> Result<(), Fail> {
-    let alloc = rt.alloc();
-    let cases = [
-        (1, 1, 9, ReadError::TooLong),
-        (2, 1, 9, ReadError::TooLong),
-        (1, 9, 1, ReadError::ReadFault),
-    ];
-    for (piece, limit, failing, error) in cases {
-        assert!(rt; 0 < piece);
-        let mut source = MemSource::new(b"ab".to_vec(alloc)?, piece, [failing].to_vec(alloc)?);
-        second_is_refused(&rt, &mut source, limit, error)?;
+/// The second byte is past the limit, whether the source would give it with the first or alone, or
+/// its call fails.
+#[rattlefmt::skip]
+static SECONDS: [Second; 3] = [
+    Second { piece: 1, failing: [9], limit: 1, error: ReadError::TooLong },
+    Second { piece: 2, failing: [9], limit: 1, error: ReadError::TooLong },
+    Second { piece: 1, failing: [1], limit: 9, error: ReadError::ReadFault },
+];
+
+/// Whether an `a` comes, and the byte behind it is refused. It is not ahead before.
+fn is_second_refused(alloc: Global, source: &mut MemSource, second: &Second) -> bool {
+    let Ok(mut input) = Input::new(alloc, second.limit) else {
+        return false;
+    };
+    let Ok(first) = next_byte(&mut input, source) else {
+        return false;
+    };
+    first == Some(b'a')
+        && input.ahead() == 0
+        && next_byte(&mut input, source) == Err(second.error)
+        && !input.is_good()
+}
+
+/// Whether it is refused over the source that is made for it.
+fn has_one_byte(alloc: Global, second: &Second) -> bool {
+    match source_of(alloc, b"ab", second.piece, &second.failing) {
+        Err(_) => false,
+        Ok(mut source) => is_second_refused(alloc, &mut source, second),
     }
-    Ok(())
+}
+
+#[test]
+fn a_next_byte_is_refused(rt: HostRuntime) {
+    for second in &SECONDS {
+        assert!(rt; has_one_byte(rt.alloc(), second));
+    }
 }

@@ -1,230 +1,355 @@
 //! Devices that fail in one call, have little room, or do what is asked.
 
 use crate::runs::{
-    Devices, SMALLEST, SMALLEST_RANK, SMALLEST_REPORT, STEADY, expect, outcome_of, run_over,
+    ANSWERED, Devices, INTEGERS, Outcome, Run, SMALLEST, SMALLEST_RANK, SMALLEST_REPORT, STEADY,
+    all_go, outcome_of, run_over,
 };
-use sp_ids::Status;
+use sp_ids::{OutOfMemory, Status};
 use sp_ports::{NoGate, SteadySink, SteadySource};
-use std::process::Abort;
 use std::test::Fail;
 use std::thread::Threads;
 
-/// Words of a report of the first version.
-const REPORT: [&str; 3] = ["analyse", "--report", "1"];
+/// Whether one read failed, and nothing was written but the line that tells it.
+fn tells_a_fault(found: &Outcome) -> bool {
+    found.is(Status::ReadFault, b"", b"btf: read fault\n")
+        && found.devices.input.failed_calls() == 1
+}
 
-/// A job whose read with this number fails.
-fn read_fails<R: Threads + Abort + AllocGlobal + Sync>(
-    rt: &R,
-    job: &str,
-    call: u64,
-) -> Result<(), Fail> {
+/// Whether a job whose read with this number fails tells it.
+fn read_fails<R: Threads + AllocGlobal + Sync>(rt: &R, job: &str, call: u64) -> bool {
     let devices = Devices {
         failing_reads: &[call],
         ..STEADY
     };
-    let found = outcome_of(rt, &[job], SMALLEST.as_bytes(), &devices)?;
-    let line = b"btf: read fault\n".as_slice();
-    let wanted = (Status::ReadFault, b"".as_slice(), line);
-    assert_eq!(rt; found.told(), wanted, "{job}, call {call}");
-    assert_eq!(rt; found.devices.input.failed_calls(), 1, "{job}, call {call}");
-    Ok(())
+    match outcome_of(rt, &[job], SMALLEST, &devices) {
+        Err(_) => false,
+        Ok(found) => tells_a_fault(&found),
+    }
 }
 
 // The 59 bytes come in six pieces, and call 6 tells the end.
 #[test]
-fn each_read_fails_in_turn(rt: HostRuntime) -> Result<(), Fail> {
-    for job in ["rank", "analyse"] {
-        for call in 0u64..7 {
-            read_fails(&rt, job, call)?;
-        }
+fn each_read_fails_in_turn(rt: HostRuntime) {
+    for call in 0u64..7 {
+        assert!(rt; read_fails(&rt, "rank", call));
+        assert!(rt; read_fails(&rt, "analyse", call));
     }
-    Ok(())
 }
 
-/// An entry line more than told, in 63 bytes.
-const TRAILING: &str = "%%MatrixMarket matrix coordinate pattern general\n1 1 1\n1 1\n1 1\n";
+const BOTH: Run = Run {
+    commands: &["rank", "analyse"],
+    ..ANSWERED
+};
 
-/// An entry line less than told.
-const LACKING: &str = "%%MatrixMarket matrix coordinate pattern general\n1 1 2\n1 1\n";
+/// A line is judged once its end was given. So the last line of 63 bytes, an entry line more than
+/// told, is told where call 63 fails, and not where call 62 does; an entry line is missing only at
+/// the end of the input, which a failed call is not.
+#[rattlefmt::skip]
+static ENDS_OF_LINES: [Run; 4] = [
+    Run {
+        file: &[b"%%MatrixMarket matrix coordinate pattern general\n1 1 1\n1 1\n1 1\n"],
+        devices: Devices { piece: 1, failing_reads: &[62], ..STEADY },
+        status: Status::ReadFault,
+        err: b"btf: read fault\n",
+        ..BOTH
+    },
+    Run {
+        file: &[b"%%MatrixMarket matrix coordinate pattern general\n1 1 1\n1 1\n1 1\n"],
+        devices: Devices { piece: 1, failing_reads: &[63], ..STEADY },
+        status: Status::Malformed,
+        err: b"btf: malformed line 4: Trailing\n",
+        ..BOTH
+    },
+    Run {
+        file: &[b"%%MatrixMarket matrix coordinate pattern general\n1 1 2\n1 1\n"],
+        devices: Devices { piece: 4096, failing_reads: &[1], ..STEADY },
+        status: Status::ReadFault,
+        err: b"btf: read fault\n",
+        ..BOTH
+    },
+    Run {
+        file: &[b"%%NotIt\n"],
+        devices: Devices { piece: 8, failing_reads: &[1], ..STEADY },
+        status: Status::Malformed,
+        err: b"btf: malformed line 1: NoBanner\n",
+        ..BOTH
+    },
+];
 
-// A line is judged once its end was given. So the last line of 63 is told where call 63 fails, and
-// not where call 62 does; an entry line is missing only at the end of the input, which a failed
-// call is not.
 #[test]
-fn a_line_is_judged_where_its_end_was_given(rt: HostRuntime) -> Result<(), Fail> {
-    let fault = "btf: read fault\n";
-    let trailing = "btf: malformed line 4: Trailing\n";
-    let banner = "btf: malformed line 1: NoBanner\n";
-    let (lost, bad) = (Status::ReadFault, Status::Malformed);
-    let runs = [
-        (TRAILING, 1usize, 62u64, lost, fault),
-        (TRAILING, 1, 63, bad, trailing),
-        (LACKING, 4096, 1, lost, fault),
-        ("%%NotIt\n", 8, 1, bad, banner),
-    ];
-    for (file, piece, call, status, line) in runs {
-        let devices = Devices {
-            piece,
-            failing_reads: &[call],
-            ..STEADY
-        };
-        for job in ["rank", "analyse"] {
-            expect(&rt, &[job], file, &devices, status, "", line)?;
-        }
-    }
-    Ok(())
+fn a_line_is_judged_where_its_end_was_given(rt: HostRuntime) {
+    assert!(rt; all_go(&rt, &ENDS_OF_LINES));
 }
 
-/// Writes the report of one entry to a device that fails, and compares how much of it was taken.
-fn report_is_cut<R: Threads + Abort + AllocGlobal + Sync>(
+/// Whether these bytes are the first of the report of one entry, up to so many.
+fn is_cut(found: &Outcome, taken: usize) -> bool {
+    match SMALLEST_REPORT.get(..taken) {
+        None => false,
+        Some(text) => found.is(Status::WriteFault, text, b"btf: write fault\n"),
+    }
+}
+
+/// Whether so much of that report was taken by a device that fails.
+fn report_is_cut<R: Threads + AllocGlobal + Sync>(
     rt: &R,
     devices: &Devices<'_>,
     taken: usize,
-) -> Result<(), Fail> {
-    let report = SMALLEST_REPORT.as_bytes();
-    assert!(rt; taken <= report.len());
-    let found = outcome_of(rt, &REPORT, SMALLEST.as_bytes(), devices)?;
-    let line = b"btf: write fault\n".as_slice();
-    let wanted = (Status::WriteFault, &report[..taken], line);
-    assert_eq!(rt; found.told(), wanted, "{taken} bytes");
-    Ok(())
-}
-
-// The 96 bytes of the report go out ten a call; call 10 hands them on.
-#[test]
-fn each_write_fails_in_turn(rt: HostRuntime) -> Result<(), Fail> {
-    for (call, taken) in (0u64..11).zip((0usize..96).step_by(10).chain([96])) {
-        let devices = Devices {
-            failing_writes: &[call],
-            ..STEADY
-        };
-        report_is_cut(&rt, &devices, taken)?;
+) -> bool {
+    match outcome_of(rt, &["analyse --report 1"], SMALLEST, devices) {
+        Err(_) => false,
+        Ok(found) => is_cut(&found, taken),
     }
-    Ok(())
 }
 
-#[test]
-fn a_sink_with_little_room_takes_what_it_can(rt: HostRuntime) -> Result<(), Fail> {
-    let little = Devices { room: 50, ..STEADY };
-    report_is_cut(&rt, &little, 50)?;
-    let small = Devices { room: 12, ..STEADY };
-    expect(
-        &rt,
-        &["rank"],
-        SMALLEST,
-        &small,
-        Status::WriteFault,
-        "matrix 1 1 1",
-        "btf: write fault\n",
-    )
-}
+/// Calls of `write`, and how many bytes were taken before each: the 96 bytes of the report go out
+/// ten a call, and call 10 hands them on.
+#[rattlefmt::skip]
+static WRITES: [(u64, usize); 11] = [
+    (0, 0), (1, 10), (2, 20), (3, 30), (4, 40), (5, 50), (6, 60), (7, 70), (8, 80), (9, 90), (10, 96),
+];
 
-// The line of a refusal may be lost, whole or in part: the status stays.
-#[test]
-fn lines_of_refusals_may_be_lost(rt: HostRuntime) -> Result<(), Fail> {
-    let both = Devices {
-        failing_writes: &[0],
-        err_room: 0,
+/// Whether the report is cut so where this call fails.
+fn write_fails<R: Threads + AllocGlobal + Sync>(rt: &R, call: u64, taken: usize) -> bool {
+    let devices = Devices {
+        failing_writes: &[call],
         ..STEADY
     };
-    expect(
-        &rt,
-        &["analyse"],
-        SMALLEST,
-        &both,
-        Status::WriteFault,
-        "",
-        "",
-    )?;
-    let little = Devices {
-        err_room: 5,
-        ..STEADY
+    report_is_cut(rt, &devices, taken)
+}
+
+#[test]
+fn each_write_fails_in_turn(rt: HostRuntime) {
+    for (call, taken) in &WRITES {
+        assert!(rt; write_fails(&rt, *call, *taken));
+    }
+}
+
+/// Devices with room for 50 bytes of an answer.
+const FIFTY: Devices<'static> = Devices { room: 50, ..STEADY };
+
+const LOST: Run = Run {
+    status: Status::WriteFault,
+    err: b"btf: write fault\n",
+    ..ANSWERED
+};
+
+#[rattlefmt::skip]
+static LITTLE_ROOM: [Run; 1] = [
+    Run {
+        commands: &["rank"],
+        file: &[SMALLEST],
+        devices: Devices { room: 12, ..STEADY },
+        out: b"matrix 1 1 1",
+        ..LOST
+    },
+];
+
+#[test]
+fn a_sink_with_little_room_takes_what_it_can(rt: HostRuntime) {
+    assert!(rt; report_is_cut(&rt, &FIFTY, 50));
+    assert!(rt; all_go(&rt, &LITTLE_ROOM));
+}
+
+/// The line of a refusal may be lost, whole or in part: the status stays.
+#[rattlefmt::skip]
+static LOST_LINES: [Run; 2] = [
+    Run {
+        commands: &["analyse"],
+        file: &[SMALLEST],
+        devices: Devices { failing_writes: &[0], err_room: 0, ..STEADY },
+        status: Status::WriteFault,
+        ..ANSWERED
+    },
+    Run {
+        commands: &["analyse"],
+        file: &[b""],
+        devices: Devices { err_room: 5, ..STEADY },
+        status: Status::Malformed,
+        err: b"btf: ",
+        ..ANSWERED
+    },
+];
+
+#[test]
+fn lines_of_refusals_may_be_lost(rt: HostRuntime) {
+    assert!(rt; all_go(&rt, &LOST_LINES));
+}
+
+/// One entry, with its report behind it.
+const JUDGED: &[u8] =
+    b"%%MatrixMarket matrix coordinate pattern general\n1 1 1\n1 1\nbtf 1\nmatrix 1 1 1\nrank 1\nhorizontal 0 0\nsquare 1 1\nblock 1 1\nrows 1\ncolumns 1\nvertical 0 0\npairs 1\n1 1\nend\n";
+
+const SUMMARY: &[u8] = b"matrix 1 1 1\nrank 1\nhorizontal 0 0\nsquare 1 1\nvertical 0 0\n";
+
+const BEST: &[u8] = b"bottleneck 1 0\n1 1 0\nabove_rows\nabove_columns 1\nend\n";
+
+/// Calls of 10 bytes write the 39 bytes of `rank` in 4, the 96 of `analyse` in 10, the 6 of `check`
+/// in 1, the 59 of `load` in 6, the 16 of `diagonal` in 2, the 7 of `edit` in 1 and the 52 of
+/// `bottleneck` in 6. The one after them hands the text on, and is the last: where it fails the text
+/// is lost, and a failure behind it is none.
+#[rattlefmt::skip]
+static HANDED_ON: [Run; 14] = [
+    Run {
+        commands: &["rank"],
+        file: &[SMALLEST],
+        devices: Devices { failing_writes: &[4], ..STEADY },
+        out: SMALLEST_RANK,
+        ..LOST
+    },
+    Run {
+        commands: &["rank"],
+        file: &[SMALLEST],
+        devices: Devices { failing_writes: &[5], ..STEADY },
+        out: SMALLEST_RANK,
+        ..ANSWERED
+    },
+    Run {
+        commands: &["analyse --report 1"],
+        file: &[SMALLEST],
+        devices: Devices { failing_writes: &[10], ..STEADY },
+        out: SMALLEST_REPORT,
+        ..LOST
+    },
+    Run {
+        commands: &["analyse --report 1"],
+        file: &[SMALLEST],
+        devices: Devices { failing_writes: &[11], ..STEADY },
+        out: SMALLEST_REPORT,
+        ..ANSWERED
+    },
+    Run {
+        commands: &["check"],
+        file: &[JUDGED],
+        devices: Devices { failing_writes: &[1], ..STEADY },
+        out: b"valid\n",
+        ..LOST
+    },
+    Run {
+        commands: &["check"],
+        file: &[JUDGED],
+        devices: Devices { failing_writes: &[2], ..STEADY },
+        out: b"valid\n",
+        ..ANSWERED
+    },
+    Run {
+        commands: &["load --size 1 --seed 5"],
+        file: &[],
+        devices: Devices { failing_writes: &[6], ..STEADY },
+        out: SUMMARY,
+        ..LOST
+    },
+    Run {
+        commands: &["load --size 1 --seed 5"],
+        file: &[],
+        devices: Devices { failing_writes: &[7], ..STEADY },
+        out: SUMMARY,
+        ..ANSWERED
+    },
+    Run {
+        commands: &["diagonal"],
+        file: &[INTEGERS, b"2 1 1\n1 1 1\n"],
+        devices: Devices { failing_writes: &[2], ..STEADY },
+        out: b"rectangular 2 1\n",
+        ..LOST
+    },
+    Run {
+        commands: &["diagonal"],
+        file: &[INTEGERS, b"2 1 1\n1 1 1\n"],
+        devices: Devices { failing_writes: &[3], ..STEADY },
+        status: Status::Negative,
+        out: b"rectangular 2 1\n",
+        ..ANSWERED
+    },
+    Run {
+        commands: &["edit"],
+        file: &[SMALLEST],
+        devices: Devices { failing_writes: &[1], ..STEADY },
+        out: b"rank 1\n",
+        ..LOST
+    },
+    Run {
+        commands: &["edit"],
+        file: &[SMALLEST],
+        devices: Devices { failing_writes: &[2], ..STEADY },
+        out: b"rank 1\n",
+        ..ANSWERED
+    },
+    Run {
+        commands: &["bottleneck"],
+        file: &[INTEGERS, b"1 1 2\n1 1 5\n1 1 -5\n"],
+        devices: Devices { failing_writes: &[6], ..STEADY },
+        out: BEST,
+        ..LOST
+    },
+    Run {
+        commands: &["bottleneck"],
+        file: &[INTEGERS, b"1 1 2\n1 1 5\n1 1 -5\n"],
+        devices: Devices { failing_writes: &[7], ..STEADY },
+        out: BEST,
+        ..ANSWERED
+    },
+];
+
+#[test]
+fn a_text_is_handed_on_once(rt: HostRuntime) {
+    assert!(rt; all_go(&rt, &HANDED_ON));
+}
+
+const REPORT: Run = Run {
+    commands: &["analyse --report 1"],
+    file: &[SMALLEST],
+    out: SMALLEST_REPORT,
+    ..ANSWERED
+};
+
+#[rattlefmt::skip]
+static PIECES: [Run; 3] = [
+    Run { devices: Devices { piece: 1, ..STEADY }, ..REPORT },
+    Run { devices: Devices { piece: 7, ..STEADY }, ..REPORT },
+    Run { devices: Devices { piece: 59, ..STEADY }, ..REPORT },
+];
+
+#[test]
+fn pieces_of_the_input_change_nothing(rt: HostRuntime) {
+    assert!(rt; all_go(&rt, &PIECES));
+}
+
+/// A sink that does what is asked and counts nothing.
+fn steady_sink<R: AllocGlobal>(rt: &R) -> Result<SteadySink, OutOfMemory> {
+    SteadySink::new(rt.alloc(), 4096, 10)
+}
+
+/// Whether a run on a source with one entry writes this text to the first sink.
+fn writes<R: Threads + AllocGlobal + Sync>(
+    rt: &R,
+    words: &str,
+    text: &[u8],
+    out: &mut SteadySink,
+    err: &mut SteadySink,
+) -> bool {
+    let Ok(bytes) = SMALLEST.to_vec(rt.alloc()) else {
+        return false;
     };
-    expect(
-        &rt,
-        &["analyse"],
-        "",
-        &little,
-        Status::Malformed,
-        "",
-        "btf: ",
-    )
-}
-
-// Calls of 10 bytes write the 39 bytes of `rank` in 4, the 96 of `analyse` in 10, the 6 of `check`
-// in 1, the 59 of `load` in 6, the 16 of `diagonal` in 2, the 7 of `edit` in 1 and the 52 of
-// `bottleneck` in 6. The one after them hands the text on, and is the last.
-#[test]
-fn a_text_is_handed_on_once(rt: HostRuntime) -> Result<(), Fail> {
-    let judged =
-        "%%MatrixMarket matrix coordinate pattern general\n1 1 1\n1 1\nbtf 1\nmatrix 1 1 1\nrank 1\nhorizontal 0 0\nsquare 1 1\nblock 1 1\nrows 1\ncolumns 1\nvertical 0 0\npairs 1\n1 1\nend\n";
-    let tall = "%%MatrixMarket matrix coordinate integer general\n2 1 1\n1 1 1\n";
-    let zero = "%%MatrixMarket matrix coordinate integer general\n1 1 2\n1 1 5\n1 1 -5\n";
-    let best = "bottleneck 1 0\n1 1 0\nabove_rows\nabove_columns 1\nend\n";
-    let summary = "matrix 1 1 1\nrank 1\nhorizontal 0 0\nsquare 1 1\nvertical 0 0\n";
-    let (yes, no) = (Status::Ok, Status::Negative);
-    let load = ["load", "--size", "1", "--seed", "5"];
-    let runs: [(&[&str], &str, &str, Status, u8); 7] = [
-        (&["rank"], SMALLEST, SMALLEST_RANK, yes, 4),
-        (&REPORT, SMALLEST, SMALLEST_REPORT, yes, 10),
-        (&["check"], judged, "valid\n", yes, 1),
-        (&load, "", summary, yes, 6),
-        (&["diagonal"], tall, "rectangular 2 1\n", no, 2),
-        (&["edit"], SMALLEST, "rank 1\n", yes, 1),
-        (&["bottleneck"], zero, best, yes, 6),
-    ];
-    for (words, file, text, status, writes) in runs {
-        let writes = u64::from(writes);
-        let flush = Devices {
-            failing_writes: &[writes],
-            ..STEADY
-        };
-        let lost = "btf: write fault\n";
-        expect(&rt, words, file, &flush, Status::WriteFault, text, lost)?;
-        let later = Devices {
-            failing_writes: &[writes + 1],
-            ..STEADY
-        };
-        expect(&rt, words, file, &later, status, text, "")?;
-    }
-    Ok(())
-}
-
-#[test]
-fn pieces_of_the_input_change_nothing(rt: HostRuntime) -> Result<(), Fail> {
-    for piece in [1, 7, 59] {
-        let devices = Devices { piece, ..STEADY };
-        expect(
-            &rt,
-            &REPORT,
-            SMALLEST,
-            &devices,
-            Status::Ok,
-            SMALLEST_REPORT,
-            "",
-        )?;
-    }
-    Ok(())
+    let mut input = SteadySource::new(bytes, 10);
+    run_over(rt, &[words], &mut input, out, err, &NoGate) == Ok(Status::Ok)
+        && out.bytes() == text
+        && err.bytes().is_empty()
 }
 
 /// Runs over one entry, by devices that do what is asked and count nothing.
-fn steadily<R: Threads + Abort + AllocGlobal + Sync>(
+fn steadily<R: Threads + AllocGlobal + Sync>(
     rt: &R,
-    words: &[&str],
-    text: &str,
-) -> Result<(), Fail> {
-    let alloc = rt.alloc();
-    let mut input = SteadySource::new(SMALLEST.as_bytes().to_vec(alloc)?, 10);
-    let mut out = SteadySink::new(alloc, 4096, 10)?;
-    let mut err = SteadySink::new(alloc, 4096, 10)?;
-    let status = run_over(rt, words, &mut input, &mut out, &mut err, &NoGate)?;
-    let wanted = (Status::Ok, text.as_bytes(), b"".as_slice());
-    assert_eq!(rt; (status, out.bytes(), err.bytes()), wanted);
-    Ok(())
+    words: &str,
+    text: &[u8],
+) -> Result<bool, OutOfMemory> {
+    let mut out = steady_sink(rt)?;
+    let mut err = steady_sink(rt)?;
+    Ok(writes(rt, words, text, &mut out, &mut err))
 }
 
 #[test]
 fn steady_devices(rt: HostRuntime) -> Result<(), Fail> {
-    steadily(&rt, &["rank"], SMALLEST_RANK)?;
-    steadily(&rt, &REPORT, SMALLEST_REPORT)
+    assert!(rt; steadily(&rt, "rank", SMALLEST_RANK)?);
+    assert!(rt; steadily(&rt, "analyse --report 1", SMALLEST_REPORT)?);
+    Ok(())
 }

@@ -4,9 +4,7 @@ ghost use Rattle.std.specs.Prelude.{◌≡◌, ◌≤◌, ◌+◌};
 
 use crate::runs::{Devices, InMemory, SMALLEST, SMALLEST_REPORT, STEADY, run_over};
 use sp_ids::Status;
-use sp_ports::{Failed, NoGate, Sink, Source};
-use std::process::Abort;
-use std::test::Fail;
+use sp_ports::{Failed, MemSink, MemSource, NoGate, Sink, Source};
 use std::thread::Threads;
 
 /// A device that counts each failure of another device a second time.
@@ -66,99 +64,112 @@ impl<K: Sink> Sink for Twice<K> {
     }
 }
 
-/// What a run over one entry must tell: the status, what was written of an answer and of a refusal,
-/// and the counts of the input, the output and the line's device.
-#[derive(Drop)]
-struct Wanted {
+/// The devices of a run over one entry, and what it must tell: the status, what was written of an
+/// answer and of a refusal, and the counts of the input, the output and the line's device.
+struct Counted {
+    devices: Devices<'static>,
     status: Status,
-    text: &'static str,
-    line: &'static str,
-    counts: [u64; 3],
+    text: &'static [u8],
+    line: &'static [u8],
+    counts: (u64, u64, u64),
 }
 
-/// Runs over one entry by such devices, and compares what it tells.
-fn expect_twice<R: Threads + Abort + AllocGlobal + Sync>(
-    rt: &R,
-    devices: &Devices<'_>,
-    wanted: &Wanted,
-) -> Result<(), Fail> {
-    let InMemory { input, out, err } = InMemory::new(rt, SMALLEST.as_bytes(), devices)?;
+/// The count of a source.
+fn reads_failed(input: &Twice<MemSource>) -> u64 {
+    input.device.failed_calls().saturating_add(input.again)
+}
+
+/// The count of a sink.
+fn writes_failed(out: &Twice<MemSink>) -> u64 {
+    out.device.failed_calls().saturating_add(out.again)
+}
+
+/// Whether a sink has taken this text and counts so much.
+fn took(sink: &Twice<MemSink>, text: &[u8], count: u64) -> bool {
+    sink.device.bytes() == text && writes_failed(sink) == count
+}
+
+/// Whether a run over these devices tells what it must.
+fn is_told<R: Threads + AllocGlobal + Sync>(rt: &R, devices: InMemory, counted: &Counted) -> bool {
+    let InMemory { input, out, err } = devices;
     let mut input = Twice::of(input);
     let mut out = Twice::of(out);
     let mut err = Twice::of(err);
-    let words = ["analyse", "--report", "1"];
-    let status = run_over(rt, &words, &mut input, &mut out, &mut err, &NoGate)?;
-    let told = (status, out.device.bytes(), err.device.bytes());
-    let texts = (
-        wanted.status,
-        wanted.text.as_bytes(),
-        wanted.line.as_bytes(),
-    );
-    assert_eq!(rt; told, texts);
-    let counts = [
-        input.device.failed_calls().saturating_add(input.again),
-        out.device.failed_calls().saturating_add(out.again),
-        err.device.failed_calls().saturating_add(err.again),
-    ];
-    assert_eq!(rt; counts, wanted.counts);
-    Ok(())
+    let words = ["analyse --report 1"];
+    run_over(rt, &words, &mut input, &mut out, &mut err, &NoGate) == Ok(counted.status)
+        && reads_failed(&input) == counted.counts.0
+        && took(&out, counted.text, counted.counts.1)
+        && took(&err, counted.line, counted.counts.2)
 }
 
-#[test]
-fn no_call_fails(rt: HostRuntime) -> Result<(), Fail> {
-    let wanted = Wanted {
-        status: Status::Ok,
-        text: SMALLEST_REPORT,
-        line: "",
-        counts: [0, 0, 0],
-    };
-    expect_twice(&rt, &STEADY, &wanted)
+/// Whether a run over one entry does.
+fn is_counted<R: Threads + AllocGlobal + Sync>(rt: &R, counted: &Counted) -> bool {
+    match InMemory::new(rt.alloc(), SMALLEST, &counted.devices) {
+        Err(_) => false,
+        Ok(devices) => is_told(rt, devices, counted),
+    }
 }
 
-// The third of the seven calls that the 59 bytes take fails.
+static NO_FAILURE: Counted = Counted {
+    devices: STEADY,
+    status: Status::Ok,
+    text: SMALLEST_REPORT,
+    line: b"",
+    counts: (0, 0, 0),
+};
+
 #[test]
-fn a_read_fails(rt: HostRuntime) -> Result<(), Fail> {
-    let devices = Devices {
+fn no_call_fails(rt: HostRuntime) {
+    assert!(rt; is_counted(&rt, &NO_FAILURE));
+}
+
+/// The third of the seven calls that the 59 bytes take fails.
+static FAILED_READ: Counted = Counted {
+    devices: Devices {
         failing_reads: &[2],
         ..STEADY
-    };
-    let wanted = Wanted {
-        status: Status::ReadFault,
-        text: "",
-        line: "btf: read fault\n",
-        counts: [2, 0, 0],
-    };
-    expect_twice(&rt, &devices, &wanted)
-}
+    },
+    status: Status::ReadFault,
+    text: b"",
+    line: b"btf: read fault\n",
+    counts: (2, 0, 0),
+};
 
 #[test]
-fn a_write_fails(rt: HostRuntime) -> Result<(), Fail> {
-    let devices = Devices {
+fn a_read_fails(rt: HostRuntime) {
+    assert!(rt; is_counted(&rt, &FAILED_READ));
+}
+
+static FAILED_WRITE: Counted = Counted {
+    devices: Devices {
         failing_writes: &[0],
         ..STEADY
-    };
-    let wanted = Wanted {
-        status: Status::WriteFault,
-        text: "",
-        line: "btf: write fault\n",
-        counts: [0, 2, 0],
-    };
-    expect_twice(&rt, &devices, &wanted)
+    },
+    status: Status::WriteFault,
+    text: b"",
+    line: b"btf: write fault\n",
+    counts: (0, 2, 0),
+};
+
+#[test]
+fn a_write_fails(rt: HostRuntime) {
+    assert!(rt; is_counted(&rt, &FAILED_WRITE));
 }
 
-// The line of the refusal is lost too, and the status stays.
-#[test]
-fn a_write_and_its_line_fail(rt: HostRuntime) -> Result<(), Fail> {
-    let devices = Devices {
+/// The line of the refusal is lost too, and the status stays.
+static FAILED_WRITE_AND_LINE: Counted = Counted {
+    devices: Devices {
         failing_writes: &[0],
         err_room: 0,
         ..STEADY
-    };
-    let wanted = Wanted {
-        status: Status::WriteFault,
-        text: "",
-        line: "",
-        counts: [0, 2, 2],
-    };
-    expect_twice(&rt, &devices, &wanted)
+    },
+    status: Status::WriteFault,
+    text: b"",
+    line: b"",
+    counts: (0, 2, 2),
+};
+
+#[test]
+fn a_write_and_its_line_fail(rt: HostRuntime) {
+    assert!(rt; is_counted(&rt, &FAILED_WRITE_AND_LINE));
 }

@@ -1,133 +1,163 @@
 //! Files that are refused.
 
-use crate::runs::{BANNER, STEADY, expect, outcome_of};
+use crate::runs::{ANSWERED, BANNER, Run, STEADY, all_go, goes, outcome_of};
 use sp_ids::Status;
-use std::alloc::AllocError;
-use std::process::Abort;
-use std::test::Fail;
 use std::thread::Threads;
 
-/// Files that are refused: their lines, parted by ` / `, where a `P` stands for the first line of
-/// files of places alone, and what is told behind `btf: `.
+/// Each job that reads a matrix to the end of the input refuses a file for the same line.
+const MALFORMED: Run = Run {
+    commands: &["rank", "analyse", "diagonal"],
+    status: Status::Malformed,
+    ..ANSWERED
+};
+
+const LIMIT: Run = Run {
+    status: Status::Limit,
+    ..MALFORMED
+};
+
 #[rattlefmt::skip]
-const REFUSED: [(&str, &str); 29] = [
-    ("%%NotIt", "malformed line 1: NoBanner"),
-    ("%%MatrixMarket matrix coordinate pattern", "malformed line 1: HeaderWords"),
-    ("%%MatrixMarket vector array real general", "malformed line 1: Object"),
-    ("%%MatrixMarket matrix array real general", "malformed line 1: ArrayField"),
-    ("%%MatrixMarket matrix dense real general", "malformed line 1: Format"),
-    ("%%MatrixMarket matrix coordinate boolean general", "malformed line 1: Field"),
-    ("%%MatrixMarket matrix coordinate pattern triangular", "malformed line 1: Symmetry"),
-    ("%%MatrixMarket matrix coordinate pattern hermitian", "malformed line 1: Combination"),
-    ("P", "malformed line 1: NoSize"),
-    ("P / 2 2", "malformed line 2: SizeWords"),
-    ("P / 2 2 -1", "malformed line 2: SizeNumber"),
-    ("P / 134217729 1 0", "limit line 2: Rows"),
-    ("P / 1 134217729 0", "limit line 2: Columns"),
-    ("P / 1 1 134217729", "limit line 2: Entries"),
-    ("%%MatrixMarket matrix coordinate pattern symmetric / 2 3 0", "malformed line 2: NotSquare"),
-    ("P / 1 1 1 / 1", "malformed line 3: EntryWords"),
-    ("P / 1 1 1 / x 1", "malformed line 3: RowNumber"),
-    ("P / 1 1 1 / 1 x", "malformed line 3: ColumnNumber"),
-    ("P / 2 2 1 / 0 1", "malformed line 3: RowRange"),
-    ("P / 1 1 1 / 2 1", "malformed line 3: RowRange"),
-    ("P / 1 1 1 / 1 2", "malformed line 3: ColumnRange"),
-    ("%%MatrixMarket matrix coordinate integer general / 1 1 1 / 1 1 5.0", "malformed line 3: ValueNumber"),
-    ("%%MatrixMarket matrix coordinate integer general / 1 1 1 / 1 1 9223372036854775808", "limit line 3: Value"),
-    ("%%MatrixMarket matrix coordinate pattern symmetric / 2 2 1 / 1 2", "malformed line 3: UpperEntry"),
-    ("%%MatrixMarket matrix coordinate integer skew-symmetric / 2 2 1 / 1 1 4", "malformed line 3: DiagonalEntry"),
-    ("P / 1 1 2 / 1 1", "malformed line 3: MissingEntries"),
-    ("P / 1 1 1 / 1 1 / 1 1", "malformed line 4: Trailing"),
-    ("P / % c /  / 1 1 1 / % c / 2 1", "malformed line 6: RowRange"),
-    ("P / 1 1 1 / 1 1 / % c /  / 1", "malformed line 6: Trailing"),
+static REFUSED: [Run; 29] = [
+    Run { file: &[b"%%NotIt\n"], err: b"btf: malformed line 1: NoBanner\n", ..MALFORMED },
+    Run {
+        file: &[b"%%MatrixMarket matrix coordinate pattern\n"],
+        err: b"btf: malformed line 1: HeaderWords\n",
+        ..MALFORMED
+    },
+    Run {
+        file: &[b"%%MatrixMarket vector array real general\n"],
+        err: b"btf: malformed line 1: Object\n",
+        ..MALFORMED
+    },
+    Run {
+        file: &[b"%%MatrixMarket matrix array real general\n"],
+        err: b"btf: malformed line 1: ArrayField\n",
+        ..MALFORMED
+    },
+    Run {
+        file: &[b"%%MatrixMarket matrix dense real general\n"],
+        err: b"btf: malformed line 1: Format\n",
+        ..MALFORMED
+    },
+    Run {
+        file: &[b"%%MatrixMarket matrix coordinate boolean general\n"],
+        err: b"btf: malformed line 1: Field\n",
+        ..MALFORMED
+    },
+    Run {
+        file: &[b"%%MatrixMarket matrix coordinate pattern triangular\n"],
+        err: b"btf: malformed line 1: Symmetry\n",
+        ..MALFORMED
+    },
+    Run {
+        file: &[b"%%MatrixMarket matrix coordinate pattern hermitian\n"],
+        err: b"btf: malformed line 1: Combination\n",
+        ..MALFORMED
+    },
+    Run { file: &[BANNER], err: b"btf: malformed line 1: NoSize\n", ..MALFORMED },
+    Run { file: &[BANNER, b"2 2\n"], err: b"btf: malformed line 2: SizeWords\n", ..MALFORMED },
+    Run { file: &[BANNER, b"2 2 -1\n"], err: b"btf: malformed line 2: SizeNumber\n", ..MALFORMED },
+    Run { file: &[BANNER, b"134217729 1 0\n"], err: b"btf: limit line 2: Rows\n", ..LIMIT },
+    Run { file: &[BANNER, b"1 134217729 0\n"], err: b"btf: limit line 2: Columns\n", ..LIMIT },
+    Run { file: &[BANNER, b"1 1 134217729\n"], err: b"btf: limit line 2: Entries\n", ..LIMIT },
+    Run {
+        file: &[b"%%MatrixMarket matrix coordinate pattern symmetric\n2 3 0\n"],
+        err: b"btf: malformed line 2: NotSquare\n",
+        ..MALFORMED
+    },
+    Run { file: &[BANNER, b"1 1 1\n1\n"], err: b"btf: malformed line 3: EntryWords\n", ..MALFORMED },
+    Run { file: &[BANNER, b"1 1 1\nx 1\n"], err: b"btf: malformed line 3: RowNumber\n", ..MALFORMED },
+    Run {
+        file: &[BANNER, b"1 1 1\n1 x\n"],
+        err: b"btf: malformed line 3: ColumnNumber\n",
+        ..MALFORMED
+    },
+    Run { file: &[BANNER, b"2 2 1\n0 1\n"], err: b"btf: malformed line 3: RowRange\n", ..MALFORMED },
+    Run { file: &[BANNER, b"1 1 1\n2 1\n"], err: b"btf: malformed line 3: RowRange\n", ..MALFORMED },
+    Run {
+        file: &[BANNER, b"1 1 1\n1 2\n"],
+        err: b"btf: malformed line 3: ColumnRange\n",
+        ..MALFORMED
+    },
+    Run {
+        file: &[b"%%MatrixMarket matrix coordinate integer general\n1 1 1\n1 1 5.0\n"],
+        err: b"btf: malformed line 3: ValueNumber\n",
+        ..MALFORMED
+    },
+    Run {
+        file: &[b"%%MatrixMarket matrix coordinate integer general\n1 1 1\n1 1 9223372036854775808\n"],
+        err: b"btf: limit line 3: Value\n",
+        ..LIMIT
+    },
+    Run {
+        file: &[b"%%MatrixMarket matrix coordinate pattern symmetric\n2 2 1\n1 2\n"],
+        err: b"btf: malformed line 3: UpperEntry\n",
+        ..MALFORMED
+    },
+    Run {
+        file: &[b"%%MatrixMarket matrix coordinate integer skew-symmetric\n2 2 1\n1 1 4\n"],
+        err: b"btf: malformed line 3: DiagonalEntry\n",
+        ..MALFORMED
+    },
+    Run {
+        file: &[BANNER, b"1 1 2\n1 1\n"],
+        err: b"btf: malformed line 3: MissingEntries\n",
+        ..MALFORMED
+    },
+    Run {
+        file: &[BANNER, b"1 1 1\n1 1\n1 1\n"],
+        err: b"btf: malformed line 4: Trailing\n",
+        ..MALFORMED
+    },
+    Run {
+        file: &[BANNER, b"% c\n\n1 1 1\n% c\n2 1\n"],
+        err: b"btf: malformed line 6: RowRange\n",
+        ..MALFORMED
+    },
+    Run {
+        file: &[BANNER, b"1 1 1\n1 1\n% c\n\n1\n"],
+        err: b"btf: malformed line 6: Trailing\n",
+        ..MALFORMED
+    },
 ];
 
-/// The file with these lines.
-fn file_of_lines<R: AllocGlobal>(rt: &R, lines: &str) -> Result<String, AllocError> {
-    let mut file = String::new(rt.alloc());
-    for line in lines.split(" / ") {
-        if line == "P" {
-            file.push_str(BANNER)?;
-        } else {
-            file.push_str(line)?;
-            file.push('\n')?;
-        }
-    }
-    Ok(file)
-}
-
-/// The line of a refusal, and its status.
-fn refusal_of<R: AllocGlobal>(rt: &R, told: &str) -> Result<(Status, String), AllocError> {
-    let mut line = String::from_str(rt.alloc(), "btf: ")?;
-    line.push_str(told)?;
-    line.push('\n')?;
-    if told.starts_with("limit") {
-        Ok((Status::Limit, line))
-    } else {
-        Ok((Status::Malformed, line))
-    }
-}
-
-// Each job that reads a matrix to the end of the input refuses them for the same line.
 #[test]
-fn refused_files(rt: HostRuntime) -> Result<(), Fail> {
-    for (lines, told) in REFUSED {
-        let file = file_of_lines(&rt, lines)?;
-        let (status, line) = refusal_of(&rt, told)?;
-        for job in ["rank", "analyse", "diagonal"] {
-            expect(
-                &rt,
-                &[job],
-                file.as_str(),
-                &STEADY,
-                status,
-                "",
-                line.as_str(),
-            )?;
-        }
-    }
-    Ok(())
+fn refused_files(rt: HostRuntime) {
+    assert!(rt; all_go(&rt, &REFUSED));
 }
 
-/// These bytes have no banner.
-fn have_no_banner<R: Threads + Abort + AllocGlobal + Sync>(
-    rt: &R,
-    job: &str,
-    bytes: &[u8],
-) -> Result<(), Fail> {
-    let found = outcome_of(rt, &[job], bytes, &STEADY)?;
-    let line = b"btf: malformed line 1: NoBanner\n".as_slice();
-    let wanted = (Status::Malformed, b"".as_slice(), line);
-    assert_eq!(rt; found.told(), wanted, "{job}");
-    Ok(())
+/// Whether a job finds no banner in these bytes.
+fn finds_no_banner<R: Threads + AllocGlobal + Sync>(rt: &R, job: &str, bytes: &[u8]) -> bool {
+    let line = b"btf: malformed line 1: NoBanner\n";
+    match outcome_of(rt, &[job], bytes, &STEADY) {
+        Err(_) => false,
+        Ok(found) => found.is(Status::Malformed, b"", line),
+    }
 }
 
 // No bytes at all, and the first bytes of a compressed file.
 #[test]
-fn refused_bytes(rt: HostRuntime) -> Result<(), Fail> {
+fn refused_bytes(rt: HostRuntime) {
     for job in ["rank", "analyse", "diagonal"] {
-        have_no_banner(&rt, job, b"")?;
-        have_no_banner(&rt, job, b"\x1f\x8b\x08")?;
+        assert!(rt; finds_no_banner(&rt, job, b""));
+        assert!(rt; finds_no_banner(&rt, job, b"\x1f\x8b\x08"));
     }
-    Ok(())
 }
 
-// A number of 400 digits.
+const HUNDRED_DIGITS: &[u8] =
+    b"9999999999999999999999999999999999999999999999999999999999999999999999999999999999999999999999999999";
+
+/// A number of 400 digits.
+#[rattlefmt::skip]
+static MANY_DIGITS: Run = Run {
+    commands: &["rank"],
+    file: &[BANNER, HUNDRED_DIGITS, HUNDRED_DIGITS, HUNDRED_DIGITS, HUNDRED_DIGITS, b" 1 0\n"],
+    status: Status::Limit,
+    err: b"btf: limit line 2: Rows\n",
+    ..ANSWERED
+};
+
 #[test]
-fn a_number_of_many_digits(rt: HostRuntime) -> Result<(), Fail> {
-    let mut file = String::from_str(rt.alloc(), BANNER)?;
-    for _ in 0..400 {
-        file.push('9')?;
-    }
-    file.push_str(" 1 0\n")?;
-    let rows = "btf: limit line 2: Rows\n";
-    expect(
-        &rt,
-        &["rank"],
-        file.as_str(),
-        &STEADY,
-        Status::Limit,
-        "",
-        rows,
-    )
+fn a_number_of_many_digits(rt: HostRuntime) {
+    assert!(rt; goes(&rt, &MANY_DIGITS));
 }

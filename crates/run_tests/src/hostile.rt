@@ -1,15 +1,16 @@
 //! `check` on changes of a report, on bytes that are made to mislead it, and on reports that
 //! promise more than they hold.
 
-use crate::runs::{Devices, Outcome, STEADY, THREE_PARTS, expect, file_of, outcome_of};
-use sp_ids::Status;
-use std::alloc::AllocError;
-use std::process::Abort;
+use crate::runs::{
+    ANSWERED, BANNER, Devices, Outcome, Run, STEADY, THREE_PARTS, goes, joined, outcome_of,
+};
+use sp_ids::{OutOfMemory, Status};
+use std::alloc::Global;
 use std::test::Fail;
 use std::thread::Threads;
 
 /// The report of the matrix with all three parts.
-const LINES: [&[u8]; 20] = [
+static LINES: [&[u8]; 20] = [
     b"btf 1\n",
     b"matrix 4 4 7\n",
     b"rank 3\n",
@@ -115,12 +116,8 @@ static OTHER_ORDERS: [Change; 4] = [
 ];
 
 /// The report of these lines after a change.
-pub(crate) fn changed<R: AllocGlobal>(
-    rt: &R,
-    lines: &[&[u8]],
-    change: &Change,
-) -> Result<Vec<u8>, AllocError> {
-    let mut text = Vec::new(rt.alloc());
+fn changed(alloc: Global, lines: &[&[u8]], change: &Change) -> Result<Vec<u8>, OutOfMemory> {
+    let mut text = Vec::new(alloc);
     for (at, line) in lines.iter().enumerate() {
         if at == change.from {
             text.extend_from_slice(change.others)?;
@@ -132,126 +129,173 @@ pub(crate) fn changed<R: AllocGlobal>(
     Ok(text)
 }
 
-/// The whole report.
-fn report<R: AllocGlobal>(rt: &R) -> Result<Vec<u8>, AllocError> {
-    changed(rt, LINES.as_slice(), &VALID[0])
+/// Devices that give large pieces.
+const LARGE: Devices<'static> = Devices {
+    piece: 65536,
+    ..STEADY
+};
+
+/// What `check` makes of the matrix with all three parts followed by these bytes.
+fn judged<R: Threads + AllocGlobal + Sync>(rt: &R, report: &[u8]) -> Result<Outcome, OutOfMemory> {
+    let file = joined(rt.alloc(), &[BANNER, THREE_PARTS, report])?;
+    outcome_of(rt, &["check"], file.as_slice(), &LARGE)
 }
 
-/// A run has told a verdict and nothing else, by the status of one.
-fn is_verdict<R: Abort>(rt: &R, found: &Outcome) {
-    let (status, text, line) = found.told();
-    assert_eq!(rt; line, b"".as_slice());
-    if status == Status::Ok {
-        assert_eq!(rt; text, b"valid\n".as_slice());
+/// Whether this is a reason for which a report is not valid, and nothing else was told.
+fn is_reason(found: &Outcome) -> bool {
+    found.is_answer(Status::Negative)
+        && found.text().starts_with(b"invalid ")
+        && found.text().len() == 10
+}
+
+/// Whether this verdict was told by its status, and nothing else.
+fn is_verdict(found: &Outcome, wanted: &[u8]) -> bool {
+    if wanted == b"valid\n".as_slice() {
+        found.is(Status::Ok, wanted, b"")
     } else {
-        assert_eq!(rt; status, Status::Negative);
-        assert!(rt; text.starts_with(b"invalid ") && text.len() == 10);
+        is_reason(found) && found.text() == wanted
     }
 }
 
-/// The verdict on the matrix with all three parts followed by these bytes.
-pub(crate) fn verdict<R: Threads + Abort + AllocGlobal + Sync>(
+/// Whether these bytes have this verdict.
+pub(crate) fn has_verdict<R: Threads + AllocGlobal + Sync>(
     rt: &R,
     report: &[u8],
-) -> Result<Vec<u8>, Fail> {
-    let alloc = rt.alloc();
-    let mut input = file_of(rt, THREE_PARTS)?.as_bytes().to_vec(alloc)?;
-    input.extend_from_slice(report)?;
-    let devices = Devices {
-        piece: 65536,
-        ..STEADY
-    };
-    let found = outcome_of(rt, &["check"], input.as_slice(), &devices)?;
-    is_verdict(rt, &found);
-    Ok(found.devices.out.bytes().to_vec(alloc)?)
+    wanted: &[u8],
+) -> bool {
+    match judged(rt, report) {
+        Err(_) => false,
+        Ok(found) => is_verdict(&found, wanted),
+    }
 }
 
-/// All of these changes of the report of these lines have this verdict.
-pub(crate) fn all_are<R: Threads + Abort + AllocGlobal + Sync>(
+/// Whether the report of these lines has this verdict after a change.
+pub(crate) fn comes_to<R: Threads + AllocGlobal + Sync>(
+    rt: &R,
+    lines: &[&[u8]],
+    change: &Change,
+    wanted: &[u8],
+) -> bool {
+    match changed(rt.alloc(), lines, change) {
+        Err(_) => false,
+        Ok(text) => has_verdict(rt, text.as_slice(), wanted),
+    }
+}
+
+/// Whether it has this verdict after each of these changes.
+pub(crate) fn all_come_to<R: Threads + AllocGlobal + Sync>(
     rt: &R,
     lines: &[&[u8]],
     changes: &[Change],
     wanted: &[u8],
-) -> Result<(), Fail> {
+) -> bool {
     for change in changes {
-        let text = changed(rt, lines, change)?;
-        let found = verdict(rt, text.as_slice())?;
-        assert_eq!(rt;
-            found.as_slice(),
-            wanted,
-            "from line {} to {}",
-            change.from,
-            change.to
-        );
+        if !comes_to(rt, lines, change, wanted) {
+            return false;
+        }
     }
-    Ok(())
+    true
+}
+
+/// Whether it has its own verdict after each of these.
+pub(crate) fn each_comes_to<R: Threads + AllocGlobal + Sync>(
+    rt: &R,
+    lines: &[&[u8]],
+    changes: &[(Change, &[u8])],
+) -> bool {
+    for (change, wanted) in changes {
+        if !comes_to(rt, lines, change, wanted) {
+            return false;
+        }
+    }
+    true
 }
 
 #[test]
-fn changes_of_the_report(rt: HostRuntime) -> Result<(), Fail> {
-    all_are(&rt, &LINES, &VALID, b"valid\n")?;
-    all_are(&rt, &LINES, &NO_REPORT, b"invalid 1\n")?;
-    all_are(&rt, &LINES, &NO_MATCHING, b"invalid 2\n")?;
-    all_are(&rt, &LINES, &NOT_MAXIMUM, b"invalid 3\n")?;
-    all_are(&rt, &LINES, &OTHER_PARTS, b"invalid 4\n")?;
-    all_are(&rt, &LINES, &OTHER_ORDERS, b"invalid 5\n")?;
-    Ok(())
+fn changes_of_the_report(rt: HostRuntime) {
+    assert!(rt; all_come_to(&rt, &LINES, &VALID, b"valid\n"));
+    assert!(rt; all_come_to(&rt, &LINES, &NO_REPORT, b"invalid 1\n"));
+    assert!(rt; all_come_to(&rt, &LINES, &NO_MATCHING, b"invalid 2\n"));
+    assert!(rt; all_come_to(&rt, &LINES, &NOT_MAXIMUM, b"invalid 3\n"));
+    assert!(rt; all_come_to(&rt, &LINES, &OTHER_PARTS, b"invalid 4\n"));
+    assert!(rt; all_come_to(&rt, &LINES, &OTHER_ORDERS, b"invalid 5\n"));
 }
 
-#[test]
-fn each_line_is_needed(rt: HostRuntime) -> Result<(), Fail> {
-    for from in 0..LINES.len() {
+/// Whether the report of these lines is none without any of them.
+pub(crate) fn needs_each_line<R: Threads + AllocGlobal + Sync>(rt: &R, lines: &[&[u8]]) -> bool {
+    for from in 0..lines.len() {
         let left_out = Change {
             from,
-            to: from + 1,
+            to: from.saturating_add(1),
             others: b"",
         };
-        all_are(&rt, &LINES, &[left_out], b"invalid 1\n")?;
+        if !comes_to(rt, lines, &left_out, b"invalid 1\n") {
+            return false;
+        }
     }
-    Ok(())
+    true
 }
 
-/// A matrix whose entries are its diagonal.
-const DIAGONAL: &str = "3 3 3\n1 1\n2 2\n3 3\n";
+#[test]
+fn each_line_is_needed(rt: HostRuntime) {
+    assert!(rt; needs_each_line(&rt, &LINES));
+}
 
-/// Its report, but for the blocks: all rows and columns are in one, as if a cycle went through
-/// them.
-const ONE_BLOCK: &str =
-    "btf 1\nmatrix 3 3 3\nrank 3\nhorizontal 0 0\nsquare 3 1\nblock 1 3\nrows 1 2 3\ncolumns 1 2 3\nvertical 0 0\npairs 3\n1 1\n2 2\n3 3\nend\n";
+/// A matrix whose entries are its diagonal, and its report, but for the blocks: all rows and columns
+/// are in one, as if a cycle went through them.
+#[rattlefmt::skip]
+static ONE_BLOCK: Run = Run {
+    commands: &["check"],
+    file: &[
+        BANNER, b"3 3 3\n1 1\n2 2\n3 3\n",
+        b"btf 1\nmatrix 3 3 3\nrank 3\nhorizontal 0 0\nsquare 3 1\nblock 1 3\nrows 1 2 3\ncolumns 1 2 3\nvertical 0 0\npairs 3\n1 1\n2 2\n3 3\nend\n",
+    ],
+    status: Status::Negative,
+    out: b"invalid 5\n",
+    ..ANSWERED
+};
 
 #[test]
-fn blocks_of_another_matrix(rt: HostRuntime) -> Result<(), Fail> {
-    let mut input = file_of(&rt, DIAGONAL)?;
-    input.push_str(ONE_BLOCK)?;
-    let no = Status::Negative;
-    expect(
-        &rt,
-        &["check"],
-        input.as_str(),
-        &STEADY,
-        no,
-        "invalid 5\n",
-        "",
-    )
+fn blocks_of_another_matrix(rt: HostRuntime) {
+    assert!(rt; goes(&rt, &ONE_BLOCK));
+}
+
+/// Whether a report is none where it is cut at any of its bytes.
+fn needs_its_end<R: Threads + AllocGlobal + Sync>(rt: &R, whole: &[u8]) -> bool {
+    for len in 0..whole.len() {
+        if !has_verdict(rt, &whole[..len], b"invalid 1\n") {
+            return false;
+        }
+    }
+    true
+}
+
+/// No change of a report.
+const NO_CHANGE: Change = Change {
+    from: 0,
+    to: 0,
+    others: b"",
+};
+
+/// Whether that holds of the report of these lines.
+pub(crate) fn is_none_if_cut<R: Threads + AllocGlobal + Sync>(rt: &R, lines: &[&[u8]]) -> bool {
+    match changed(rt.alloc(), lines, &NO_CHANGE) {
+        Err(_) => false,
+        Ok(whole) => needs_its_end(rt, whole.as_slice()),
+    }
 }
 
 // A report ends with the LF behind `end`, so none is the beginning of another.
 #[test]
-fn a_report_cut_at_each_of_its_bytes(rt: HostRuntime) -> Result<(), Fail> {
-    let whole = report(&rt)?;
-    for len in 0..whole.len() {
-        let found = verdict(&rt, &whole.as_slice()[..len])?;
-        assert_eq!(rt; found.as_slice(), b"invalid 1\n".as_slice(), "{len} bytes");
-    }
-    Ok(())
+fn a_report_cut_at_each_of_its_bytes(rt: HostRuntime) {
+    assert!(rt; is_none_if_cut(&rt, &LINES));
 }
 
 #[test]
 fn two_reports_one_behind_the_other(rt: HostRuntime) -> Result<(), Fail> {
-    let mut twice = report(&rt)?;
-    twice.extend_from_slice(report(&rt)?.as_slice())?;
-    let found = verdict(&rt, twice.as_slice())?;
-    assert_eq!(rt; found.as_slice(), b"invalid 1\n".as_slice());
+    let whole = changed(rt.alloc(), &LINES, &NO_CHANGE)?;
+    let twice = joined(rt.alloc(), &[whole.as_slice(), whole.as_slice()])?;
+    assert!(rt; has_verdict(&rt, twice.as_slice(), b"invalid 1\n"));
     Ok(())
 }
 
@@ -259,13 +303,8 @@ fn two_reports_one_behind_the_other(rt: HostRuntime) -> Result<(), Fail> {
 const OTHER_BYTES: &[u8] = b"0124 \n-x\xff";
 
 /// A text in which one byte is another.
-pub(crate) fn with_byte<R: AllocGlobal>(
-    rt: &R,
-    text: &[u8],
-    at: usize,
-    byte: u8,
-) -> Result<Vec<u8>, AllocError> {
-    let mut other = text.to_vec(rt.alloc())?;
+fn with_byte(alloc: Global, text: &[u8], at: usize, byte: u8) -> Result<Vec<u8>, OutOfMemory> {
+    let mut other = text.to_vec(alloc)?;
     if let Some(place) = other.as_mut_slice().get_mut(at) {
         *place = byte;
     }
@@ -285,33 +324,56 @@ fn other_pair(before_end: usize) -> Option<u8> {
     }
 }
 
-/// Changes this byte of the report to each other one, and compares which changes leave a report of
-/// the matrix.
-fn byte_is_changed<R: Threads + Abort + AllocGlobal + Sync>(
-    rt: &R,
-    whole: &[u8],
-    at: usize,
-) -> Result<(), Fail> {
-    let allowed = other_pair(whole.len().saturating_sub(at));
-    for byte in OTHER_BYTES {
-        let other = with_byte(rt, whole, at, *byte)?;
-        if other.as_slice() == whole {
-            continue;
+/// Whether these bytes are a report of the matrix, or are told to be none.
+fn is_valid_or_not<R: Threads + AllocGlobal + Sync>(rt: &R, report: &[u8], valid: bool) -> bool {
+    match judged(rt, report) {
+        Err(_) => false,
+        Ok(found) => {
+            if valid {
+                is_verdict(&found, b"valid\n")
+            } else {
+                is_reason(&found)
+            }
         }
-        let found = verdict(rt, other.as_slice())?;
-        let is_valid = found.as_slice() == b"valid\n".as_slice();
-        assert_eq!(rt; is_valid, allowed == Some(*byte), "byte {at} is {byte}");
     }
-    Ok(())
+}
+
+/// Whether a text in which one byte is another is a report of the matrix just where it may be.
+fn byte_goes<R: Threads + AllocGlobal + Sync>(rt: &R, whole: &[u8], at: usize, byte: u8) -> bool {
+    let valid = other_pair(whole.len().saturating_sub(at)) == Some(byte);
+    match with_byte(rt.alloc(), whole, at, byte) {
+        Err(_) => false,
+        Ok(other) => other.as_slice() == whole || is_valid_or_not(rt, other.as_slice(), valid),
+    }
+}
+
+/// Whether that holds of each of these bytes at each place.
+fn bytes_go<R: Threads + AllocGlobal + Sync>(rt: &R, whole: &[u8], others: &[u8]) -> bool {
+    for at in 0..whole.len() {
+        for byte in others {
+            if !byte_goes(rt, whole, at, *byte) {
+                return false;
+            }
+        }
+    }
+    true
+}
+
+/// Whether it does in the report of these lines.
+pub(crate) fn each_byte_goes<R: Threads + AllocGlobal + Sync>(
+    rt: &R,
+    lines: &[&[u8]],
+    others: &[u8],
+) -> bool {
+    match changed(rt.alloc(), lines, &NO_CHANGE) {
+        Err(_) => false,
+        Ok(whole) => bytes_go(rt, whole.as_slice(), others),
+    }
 }
 
 #[test]
-fn each_byte_changed(rt: HostRuntime) -> Result<(), Fail> {
-    let whole = report(&rt)?;
-    for at in 0..whole.len() {
-        byte_is_changed(&rt, whole.as_slice(), at)?;
-    }
-    Ok(())
+fn each_byte_changed(rt: HostRuntime) {
+    assert!(rt; each_byte_goes(&rt, &LINES, OTHER_BYTES));
 }
 
 /// Changes that promise up to 4,294,967,295 of what there are few, or have a number that is no
@@ -340,23 +402,21 @@ static GREATEST: [(Change, &[u8]); 5] = [
 ];
 
 #[test]
-fn reports_that_promise_more_than_they_hold(rt: HostRuntime) -> Result<(), Fail> {
-    all_are(&rt, &LINES, &PROMISES, b"invalid 1\n")?;
-    for (change, wanted) in &GREATEST {
-        all_are(&rt, &LINES, &[*change], wanted)?;
-    }
-    Ok(())
+fn reports_that_promise_more_than_they_hold(rt: HostRuntime) {
+    assert!(rt; all_come_to(&rt, &LINES, &PROMISES, b"invalid 1\n"));
+    assert!(rt; each_comes_to(&rt, &LINES, &GREATEST));
+}
+
+/// So many sevens.
+fn sevens(alloc: Global, count: usize) -> Result<Vec<u8>, OutOfMemory> {
+    Ok(Vec::from_elem(alloc, b'7', count)?)
 }
 
 // A number of ten million digits.
 #[test]
 fn a_number_of_ten_million_digits(rt: HostRuntime) -> Result<(), Fail> {
-    let mut text = b"btf 1\nmatrix 4 4 ".to_vec(rt.alloc())?;
-    text.reserve(10_000_000)?;
-    for _ in 0..10_000_000 {
-        text.push(b'7')?;
-    }
-    let found = verdict(&rt, text.as_slice())?;
-    assert_eq!(rt; found.as_slice(), b"invalid 1\n".as_slice());
+    let digits = sevens(rt.alloc(), 10_000_000)?;
+    let text = joined(rt.alloc(), &[b"btf 1\nmatrix 4 4 ", digits.as_slice()])?;
+    assert!(rt; has_verdict(&rt, text.as_slice(), b"invalid 1\n"));
     Ok(())
 }

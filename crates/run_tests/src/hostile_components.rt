@@ -1,12 +1,11 @@
 //! `check` on changes of a report of the second version, which has connected components.
 
-use crate::hostile::{Change, all_are, changed, verdict, with_byte};
-use std::process::Abort;
-use std::test::Fail;
-use std::thread::Threads;
+use crate::hostile::{
+    Change, all_come_to, each_byte_goes, each_comes_to, is_none_if_cut, needs_each_line,
+};
 
 /// The report of the matrix with all three parts.
-const LINES: [&[u8]; 28] = [
+static LINES: [&[u8]; 28] = [
     b"btf 2\n",
     b"matrix 4 4 7\n",
     b"rank 3\n",
@@ -106,78 +105,25 @@ static PROMISES: [Change; 5] = [
 ];
 
 #[test]
-fn changes_of_the_report(rt: HostRuntime) -> Result<(), Fail> {
-    all_are(&rt, &LINES, &VALID, b"valid\n")?;
-    all_are(&rt, &LINES, &NO_REPORT, b"invalid 1\n")?;
-    all_are(&rt, &LINES, &OTHER_COMPONENTS, b"invalid 6\n")?;
-    all_are(&rt, &LINES, &PROMISES, b"invalid 1\n")?;
-    for (change, wanted) in &EARLIER {
-        all_are(&rt, &LINES, &[*change], wanted)?;
-    }
-    Ok(())
+fn changes_of_the_report(rt: HostRuntime) {
+    assert!(rt; all_come_to(&rt, &LINES, &VALID, b"valid\n"));
+    assert!(rt; all_come_to(&rt, &LINES, &NO_REPORT, b"invalid 1\n"));
+    assert!(rt; all_come_to(&rt, &LINES, &OTHER_COMPONENTS, b"invalid 6\n"));
+    assert!(rt; all_come_to(&rt, &LINES, &PROMISES, b"invalid 1\n"));
+    assert!(rt; each_comes_to(&rt, &LINES, &EARLIER));
 }
 
 #[test]
-fn each_line_is_needed(rt: HostRuntime) -> Result<(), Fail> {
-    for from in 0..LINES.len() {
-        let left_out = Change {
-            from,
-            to: from + 1,
-            others: b"",
-        };
-        all_are(&rt, &LINES, &[left_out], b"invalid 1\n")?;
-    }
-    Ok(())
+fn each_line_is_needed(rt: HostRuntime) {
+    assert!(rt; needs_each_line(&rt, &LINES));
 }
 
 #[test]
-fn a_report_cut_at_each_of_its_bytes(rt: HostRuntime) -> Result<(), Fail> {
-    let whole = changed(&rt, LINES.as_slice(), &VALID[0])?;
-    for len in 0..whole.len() {
-        let found = verdict(&rt, &whole.as_slice()[..len])?;
-        assert_eq!(rt; found.as_slice(), b"invalid 1\n".as_slice(), "{len} bytes");
-    }
-    Ok(())
-}
-
-/// The byte that may stand so many bytes before the end of the report and leave a report of the
-/// matrix: the row of the last pair may be 4, and the column of the first one 2. Rows 3 and 4 both
-/// have column 4 alone, and row 1 has columns 1 and 2.
-fn other_pair(before_end: usize) -> Option<u8> {
-    if before_end == b"3 4\nend\n".len() {
-        Some(b'4')
-    } else if before_end == b"1\n2 3\n3 4\nend\n".len() {
-        Some(b'2')
-    } else {
-        None
-    }
-}
-
-/// Changes this byte of the report to each of some others, and compares which changes leave a
-/// report of the matrix.
-fn byte_is_changed<R: Threads + Abort + AllocGlobal + Sync>(
-    rt: &R,
-    whole: &[u8],
-    at: usize,
-) -> Result<(), Fail> {
-    let allowed = other_pair(whole.len().saturating_sub(at));
-    for byte in b"024\n" {
-        let other = with_byte(rt, whole, at, *byte)?;
-        if other.as_slice() == whole {
-            continue;
-        }
-        let found = verdict(rt, other.as_slice())?;
-        let is_valid = found.as_slice() == b"valid\n".as_slice();
-        assert_eq!(rt; is_valid, allowed == Some(*byte), "byte {at} is {byte}");
-    }
-    Ok(())
+fn a_report_cut_at_each_of_its_bytes(rt: HostRuntime) {
+    assert!(rt; is_none_if_cut(&rt, &LINES));
 }
 
 #[test]
-fn each_byte_changed(rt: HostRuntime) -> Result<(), Fail> {
-    let whole = changed(&rt, LINES.as_slice(), &VALID[0])?;
-    for at in 0..whole.len() {
-        byte_is_changed(&rt, whole.as_slice(), at)?;
-    }
-    Ok(())
+fn each_byte_changed(rt: HostRuntime) {
+    assert!(rt; each_byte_goes(&rt, &LINES, b"024\n"));
 }

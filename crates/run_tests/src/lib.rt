@@ -8,6 +8,8 @@ mod analyse;
 #[cfg(test)]
 mod array_files;
 #[cfg(test)]
+mod batch_answers;
+#[cfg(test)]
 mod batches;
 #[cfg(test)]
 mod bottlenecks;

@@ -1,107 +1,138 @@
 //! `load` on small sizes, with texts worked out by hand.
 
-use crate::runs::{Devices, STEADY, expect, outcome_of};
+use crate::runs::{ANSWERED, Devices, Outcome, Run, STEADY, all_go, outcome_of};
 use sp_ids::Status;
-use sp_ports::{Failed, MemSource, Source};
-use std::process::Abort;
+use sp_ports::{Failed, Source};
 use std::test::Fail;
 use std::thread::Threads;
 
-/// What is written for a size and a seed, by each engine with one and with several workers. A file
-/// that is there is not looked at.
-fn summary<'a, R: Threads + Abort + AllocGlobal + Sync>(
-    rt: &R,
-    size: &'a str,
-    seed: &'a str,
-    text: &str,
-) -> Result<(), Fail> {
-    let file = "no matrix";
-    let words = ["load", "--size", size, "--seed", seed];
-    expect(rt, &words, file, &STEADY, Status::Ok, text, "")?;
-    for engine in ["plain", "mc21", "pf", "graft"] {
-        for workers in ["1", "2", "64"] {
-            let words = [
-                "load",
-                "--workers",
-                workers,
-                "--seed",
-                seed,
-                "--engine",
-                engine,
-                "--size",
-                size,
-            ];
-            expect(rt, &words, file, &STEADY, Status::Ok, text, "")?;
+/// The words of a size and of a seed, and what is written for them.
+struct Summary {
+    size: &'static str,
+    seed: &'static str,
+    text: &'static [u8],
+}
+
+/// Seed 0 and size 30: column j has the rows 2 j, 3 j and 5 j, so multiples of 2, 3 or 5, of which
+/// there are 22 below 30. Of size 2 and seed 1, column 0 has the rows 1, 0 and 1, and column 1 the
+/// rows 1, 1 and 0. Of size 1 there is one place. That size 10,001 and seed 7 make one block is what
+/// CXSparse and SuiteSparse BTF say of their matrix.
+#[rattlefmt::skip]
+static SUMMARIES: [Summary; 5] = [
+    Summary {
+        size: "--size 30",
+        seed: "--seed 0",
+        text: b"matrix 30 30 85\nrank 22\nhorizontal 22 30\nsquare 0 0\nvertical 8 0\n",
+    },
+    Summary {
+        size: "--size 2",
+        seed: "--seed 1",
+        text: b"matrix 2 2 4\nrank 2\nhorizontal 0 0\nsquare 2 1\nvertical 0 0\n",
+    },
+    Summary {
+        size: "--size 1",
+        seed: "--seed 5",
+        text: b"matrix 1 1 1\nrank 1\nhorizontal 0 0\nsquare 1 1\nvertical 0 0\n",
+    },
+    Summary {
+        size: "--size 1",
+        seed: "--seed 18446744073709551615",
+        text: b"matrix 1 1 1\nrank 1\nhorizontal 0 0\nsquare 1 1\nvertical 0 0\n",
+    },
+    Summary {
+        size: "--size 10001",
+        seed: "--seed 7",
+        text: b"matrix 10001 10001 30000\nrank 10001\nhorizontal 0 0\nsquare 10001 1\nvertical 0 0\n",
+    },
+];
+
+/// Each engine with one and with several workers.
+#[rattlefmt::skip]
+static CHOICES: [(&str, &str); 12] = [
+    ("load --workers 1", "--engine plain"),
+    ("load --workers 2", "--engine plain"),
+    ("load --workers 64", "--engine plain"),
+    ("load --workers 1", "--engine mc21"),
+    ("load --workers 2", "--engine mc21"),
+    ("load --workers 64", "--engine mc21"),
+    ("load --workers 1", "--engine pf"),
+    ("load --workers 2", "--engine pf"),
+    ("load --workers 64", "--engine pf"),
+    ("load --workers 1", "--engine graft"),
+    ("load --workers 2", "--engine graft"),
+    ("load --workers 64", "--engine graft"),
+];
+
+/// Whether these words give this text. A file that is there is not looked at.
+fn is_summed<R: Threads + AllocGlobal + Sync>(rt: &R, words: &[&str], text: &[u8]) -> bool {
+    match outcome_of(rt, words, b"no matrix", &STEADY) {
+        Err(_) => false,
+        Ok(found) => found.is(Status::Ok, text, b""),
+    }
+}
+
+/// Whether a summary is given where nothing is chosen, and by each choice.
+fn is_given<R: Threads + AllocGlobal + Sync>(rt: &R, summary: &Summary) -> bool {
+    for (workers, engine) in &CHOICES {
+        let words = [*workers, summary.seed, *engine, summary.size];
+        if !is_summed(rt, &words, summary.text) {
+            return false;
         }
     }
-    Ok(())
+    is_summed(rt, &["load", summary.size, summary.seed], summary.text)
 }
 
-// Seed 0 and size 30: column j has the rows 2 j, 3 j and 5 j, so multiples of 2, 3 or 5, of which
-// there are 22 below 30. Of size 2 and seed 1, column 0 has the rows 1, 0 and 1, and column 1 the
-// rows 1, 1 and 0. Of size 1 there is one place. That size 10,001 and seed 7 make one block is what
-// CXSparse and SuiteSparse BTF say of their matrix.
 #[test]
-fn summaries_by_each_engine(rt: HostRuntime) -> Result<(), Fail> {
-    let one = "matrix 1 1 1\nrank 1\nhorizontal 0 0\nsquare 1 1\nvertical 0 0\n";
-    let texts = [
-        (
-            "30",
-            "0",
-            "matrix 30 30 85\nrank 22\nhorizontal 22 30\nsquare 0 0\nvertical 8 0\n",
-        ),
-        (
-            "2",
-            "1",
-            "matrix 2 2 4\nrank 2\nhorizontal 0 0\nsquare 2 1\nvertical 0 0\n",
-        ),
-        ("1", "5", one),
-        ("1", "18446744073709551615", one),
-        (
-            "10001",
-            "7",
-            "matrix 10001 10001 30000\nrank 10001\nhorizontal 0 0\nsquare 10001 1\nvertical 0 0\n",
-        ),
-    ];
-    for (size, seed, text) in texts {
-        summary(&rt, size, seed, text)?;
+fn summaries_by_each_engine(rt: HostRuntime) {
+    for summary in &SUMMARIES {
+        assert!(rt; is_given(&rt, summary), "{} {}", summary.size, summary.seed);
     }
-    Ok(())
 }
 
-/// The next read is still the first one, which fails, and then the bytes come from the front.
-fn is_untouched<R: Abort>(rt: &R, input: &mut MemSource) {
-    assert_eq!(rt; input.failed_calls(), 0);
+/// Devices whose first read fails.
+const FIRST_FAILS: Devices<'static> = Devices {
+    piece: 4,
+    failing_reads: &[0],
+    ..STEADY
+};
+
+/// Whether there is an answer, and the next read is still the first one, which fails, and then the
+/// bytes come from the front.
+fn is_untouched(found: &mut Outcome) -> bool {
     let mut buffer = [0u8; 16];
-    assert_eq!(rt; input.read(&mut buffer), Err(Failed));
-    assert_eq!(rt; input.read(&mut buffer), Ok(4));
-    assert!(rt; buffer.starts_with(b"no m"));
+    found.status == Status::Ok
+        && found.devices.input.failed_calls() == 0
+        && found.devices.input.read(&mut buffer) == Err(Failed)
+        && found.devices.input.read(&mut buffer) == Ok(4)
+        && buffer.starts_with(b"no m")
 }
 
 #[test]
 fn the_input_is_left_alone(rt: HostRuntime) -> Result<(), Fail> {
-    let devices = Devices {
-        piece: 4,
-        failing_reads: &[0],
-        ..STEADY
-    };
-    let words = ["load", "--size", "1", "--seed", "5"];
-    let mut found = outcome_of(&rt, &words, b"no matrix", &devices)?;
-    assert_eq!(rt; found.status, Status::Ok);
-    is_untouched(&rt, &mut found.devices.input);
+    let words = ["load --size 1 --seed 5"];
+    let mut found = outcome_of(&rt, &words, b"no matrix", &FIRST_FAILS)?;
+    assert!(rt; is_untouched(&mut found));
     Ok(())
 }
 
+const LOST: Run = Run {
+    commands: &["load --size 1 --seed 5"],
+    status: Status::WriteFault,
+    err: b"btf: write fault\n",
+    ..ANSWERED
+};
+
+#[rattlefmt::skip]
+static FAILING: [Run; 2] = [
+    Run { devices: Devices { failing_writes: &[0], ..STEADY }, ..LOST },
+    Run {
+        devices: Devices { room: 20, ..STEADY },
+        out: b"matrix 1 1 1\nrank 1\n",
+        ..LOST
+    },
+];
+
 #[test]
-fn load_on_failing_devices(rt: HostRuntime) -> Result<(), Fail> {
-    let words = ["load", "--size", "1", "--seed", "5"];
-    let lost = "btf: write fault\n";
-    let write = Devices {
-        failing_writes: &[0],
-        ..STEADY
-    };
-    expect(&rt, &words, "", &write, Status::WriteFault, "", lost)?;
-    let small = Devices { room: 20, ..STEADY };
-    let front = "matrix 1 1 1\nrank 1\n";
-    expect(&rt, &words, "", &small, Status::WriteFault, front, lost)
+fn load_on_failing_devices(rt: HostRuntime) {
+    assert!(rt; all_go(&rt, &FAILING));
 }

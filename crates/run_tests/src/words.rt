@@ -1,30 +1,34 @@
 //! Words that name no job.
 
-use crate::runs::{SMALLEST, STEADY, USAGE, expect};
+use crate::runs::{ANSWERED, Run, SMALLEST, goes};
 use sp_ids::Status;
-use std::test::Fail;
+
+/// Words that are not taken, and the line for them.
+static OTHER_WORDS: Run = Run {
+    commands: &[
+        "",
+        "--help",
+        "rank rank",
+        "rank --engine fast",
+        "analyse --engine fast",
+        "analyse --workers 0",
+        "analyse --workers 65",
+        "analyse --report 3",
+        "load --size 1 --seed 1 --drop-zeros",
+        "load --size 0 --seed 1",
+        "load --size 16777217 --seed 1",
+        "load --size 1",
+        "edit --report 1",
+        "bottleneck --least",
+        "rank --least",
+    ],
+    file: &[SMALLEST],
+    status: Status::Usage,
+    err: b"btf: usage: btf rank [--drop-zeros] | analyse [--engine E] [--workers W] [--order] [--pairs] [--drop-zeros] [--report V] [--least] | diagonal [--drop-zeros] | check [--drop-zeros] | load --size N --seed S [--engine E] [--workers W] | edit | bottleneck [--drop-zeros]\n",
+    ..ANSWERED
+};
 
 #[test]
-fn other_words_are_refused(rt: HostRuntime) -> Result<(), Fail> {
-    let lines: [&[&str]; 15] = [
-        &[],
-        &["--help"],
-        &["rank", "rank"],
-        &["rank", "--engine", "fast"],
-        &["analyse", "--engine", "fast"],
-        &["analyse", "--workers", "0"],
-        &["analyse", "--workers", "65"],
-        &["analyse", "--report", "3"],
-        &["load", "--size", "1", "--seed", "1", "--drop-zeros"],
-        &["load", "--size", "0", "--seed", "1"],
-        &["load", "--size", "16777217", "--seed", "1"],
-        &["load", "--size", "1"],
-        &["edit", "--report", "1"],
-        &["bottleneck", "--least"],
-        &["rank", "--least"],
-    ];
-    for words in lines {
-        expect(&rt, words, SMALLEST, &STEADY, Status::Usage, "", USAGE)?;
-    }
-    Ok(())
+fn other_words_are_refused(rt: HostRuntime) {
+    assert!(rt; goes(&rt, &OTHER_WORDS));
 }

@@ -1,124 +1,161 @@
 //! Several workers: that they work at once, and that no text depends on how many there are or on
 //! who is first.
 
-use crate::runs::{BANNER, InMemory, STEADY, THREE_PARTS, answer, file_of, run_over};
-use sp_ids::Status;
+use crate::runs::{BANNER, InMemory, Outcome, STEADY, THREE_PARTS, joined, outcome_of, run_in};
+use sp_ids::{OutOfMemory, Status};
 use sp_ports::{Gate, MeetGate};
-use std::process::Abort;
+use std::alloc::Global;
 use std::test::Fail;
 use std::thread::Threads;
 use test_gates::BarrierGate;
 
-/// Two workers at this gate find the parts of the matrix of size 30 and number 0.
-fn two_search_at<R: Threads + Abort + AllocGlobal + Sync, G: Gate>(
+/// Whether two workers at this gate find the parts of the matrix of size 30 and number 0.
+fn two_search_in<R: Threads + AllocGlobal + Sync, G: Gate>(
     rt: &R,
+    devices: &mut InMemory,
     gate: &G,
-) -> Result<(), Fail> {
-    let words = ["load", "--size", "30", "--seed", "0", "--workers", "2"];
-    let mut devices = InMemory::new(rt, b"", &STEADY)?;
-    let status = run_over(
-        rt,
-        &words,
-        &mut devices.input,
-        &mut devices.out,
-        &mut devices.err,
-        gate,
-    )?;
-    let text = "matrix 30 30 85\nrank 22\nhorizontal 22 30\nsquare 0 0\nvertical 8 0\n";
-    assert_eq!(rt;
-        (status, devices.out.bytes()),
-        (Status::Ok, text.as_bytes())
-    );
-    Ok(())
+) -> bool {
+    let text = b"matrix 30 30 85\nrank 22\nhorizontal 22 30\nsquare 0 0\nvertical 8 0\n";
+    run_in(rt, &["load --size 30 --seed 0 --workers 2"], devices, gate) == Ok(Status::Ok)
+        && devices.out.bytes() == text.as_slice()
+}
+
+/// The same over devices that are made for it.
+fn two_search_at<R: Threads + AllocGlobal + Sync, G: Gate>(rt: &R, gate: &G) -> bool {
+    match InMemory::new(rt.alloc(), b"", &STEADY) {
+        Err(_) => false,
+        Ok(mut devices) => two_search_in(rt, &mut devices, gate),
+    }
+}
+
+/// Whether both have arrived, as often as each other, and worker 0 has not gone on alone.
+fn have_met(gate: &MeetGate) -> bool {
+    !gate.ran_out()
+        && 0 < gate.arrivals(0)
+        && gate.arrivals(0) == gate.arrivals(1)
+        && gate.arrivals(2) == 0
 }
 
 // Worker 0 waits at each of its arrivals until worker 1 has arrived as often.
 #[test]
 fn two_workers_meet(rt: HostRuntime) -> Result<(), Fail> {
     let gate = MeetGate::new(rt.alloc())?;
-    two_search_at(&rt, &gate)?;
-    assert!(rt; !gate.ran_out());
-    assert!(rt; 0 < gate.arrivals(0));
-    assert_eq!(rt; gate.arrivals(0), gate.arrivals(1));
-    assert_eq!(rt; gate.arrivals(2), 0);
+    assert!(rt; two_search_at(&rt, &gate));
+    assert!(rt; have_met(&gate));
     Ok(())
+}
+
+/// Whether both have arrived as often as each other, and neither has gone on alone.
+fn have_waited(gate: &BarrierGate) -> bool {
+    0 < gate.arrivals(0) && gate.have_arrived(2, gate.arrivals(0)) && !gate.ran_out()
 }
 
 // Each of the two waits for the other.
 #[test]
 fn two_workers_wait_for_each_other(rt: HostRuntime) -> Result<(), Fail> {
     let gate = BarrierGate::new(rt.alloc(), 2)?;
-    two_search_at(&rt, &gate)?;
-    assert!(rt; 0 < gate.arrivals(0) && gate.have_arrived(2, gate.arrivals(0)));
-    assert!(rt; !gate.ran_out());
+    assert!(rt; two_search_at(&rt, &gate));
+    assert!(rt; have_waited(&gate));
     Ok(())
 }
 
-const NUMBERS: [&str; 6] = ["1", "2", "3", "4", "8", "64"];
+/// Numbers of workers.
+static NUMBERS: [&str; 6] = [
+    "--workers 1",
+    "--workers 2",
+    "--workers 3",
+    "--workers 4",
+    "--workers 8",
+    "--workers 64",
+];
 
-/// With each number of workers the report of a file is that of the plain engine.
-fn same_reports<R: Threads + Abort + AllocGlobal + Sync>(rt: &R, file: &[u8]) -> Result<(), Fail> {
-    let plain = ["analyse", "--order", "--engine", "plain"];
-    let (_, wanted) = answer(rt, &plain, file)?;
-    for workers in NUMBERS {
-        let words = ["analyse", "--workers", workers, "--order"];
-        let (status, found) = answer(rt, &words, file)?;
-        assert_eq!(rt; status, Status::Ok, "{workers} workers");
-        assert_eq!(rt; found.as_slice(), wanted.as_slice(), "{workers} workers");
+/// Whether these words give this text.
+fn is_text<R: Threads + AllocGlobal + Sync>(
+    rt: &R,
+    words: &[&str],
+    file: &[u8],
+    text: &[u8],
+) -> bool {
+    match outcome_of(rt, words, file, &STEADY) {
+        Err(_) => false,
+        Ok(found) => found.is(Status::Ok, text, b""),
     }
-    Ok(())
 }
+
+/// Whether these words, with any number of workers before the last ones, give what was found.
+fn all_find<R: Threads + AllocGlobal + Sync>(
+    rt: &R,
+    words: (&str, &str),
+    file: &[u8],
+    found: &Outcome,
+) -> bool {
+    for workers in &NUMBERS {
+        if !is_text(rt, &[words.0, workers, words.1], file, found.text()) {
+            return false;
+        }
+    }
+    found.is_answer(Status::Ok)
+}
+
+/// Whether with each number of workers the report of a file is that of the plain engine.
+fn same_reports<R: Threads + AllocGlobal + Sync>(rt: &R, file: &[u8]) -> bool {
+    match outcome_of(rt, &["analyse --order --engine plain"], file, &STEADY) {
+        Err(_) => false,
+        Ok(found) => all_find(rt, ("analyse", "--order"), file, &found),
+    }
+}
+
+/// Files from their size lines on.
+static FILES: [&[u8]; 5] = [
+    b"0 0 0\n",
+    b"1 2 2\n1 1\n1 2\n",
+    b"2 1 2\n1 1\n2 1\n",
+    b"3 3 5\n1 1\n1 2\n3 2\n1 3\n2 3\n",
+    THREE_PARTS,
+];
 
 #[test]
 fn reports_of_small_matrices(rt: HostRuntime) -> Result<(), Fail> {
-    for lines in [
-        "0 0 0\n",
-        "1 2 2\n1 1\n1 2\n",
-        "2 1 2\n1 1\n2 1\n",
-        "3 3 5\n1 1\n1 2\n3 2\n1 3\n2 3\n",
-        THREE_PARTS,
-    ] {
-        same_reports(&rt, file_of(&rt, lines)?.as_bytes())?;
+    for lines in &FILES {
+        let file = joined(rt.alloc(), &[BANNER, lines])?;
+        assert!(rt; same_reports(&rt, file.as_slice()));
     }
     Ok(())
 }
 
-// Thirty columns that all have entries in the same three rows, and one row of all columns beside
-// them.
-#[test]
-fn a_contested_matrix_again_and_again(rt: HostRuntime) -> Result<(), Fail> {
-    let mut file = String::from_str(rt.alloc(), BANNER)?;
-    file.push_str("4 30 120\n")?;
+/// Thirty columns that all have entries in the same four rows.
+fn contested(alloc: Global) -> Result<String, OutOfMemory> {
+    let banner = "%%MatrixMarket matrix coordinate pattern general\n4 30 120\n";
+    let mut file = String::from_str(alloc, banner)?;
     for col in 1..31u32 {
         for row in 1..5u32 {
             write!(file, "{row} {col}\n")?;
         }
     }
+    Ok(file)
+}
+
+#[test]
+fn a_contested_matrix_again_and_again(rt: HostRuntime) -> Result<(), Fail> {
+    let file = contested(rt.alloc())?;
     for _ in 0..10 {
-        same_reports(&rt, file.as_bytes())?;
+        assert!(rt; same_reports(&rt, file.as_bytes()));
     }
     Ok(())
 }
 
+/// Whether with each number of workers the summary of a matrix of this seed is that of one engine.
+fn same_summaries<R: Threads + AllocGlobal + Sync>(rt: &R, seed: &str) -> bool {
+    match outcome_of(rt, &["load --size 3400 --engine pf", seed], b"", &STEADY) {
+        Err(_) => false,
+        Ok(found) => all_find(rt, ("load --size 3400", seed), b"", &found),
+    }
+}
+
 // Matrices of some ten thousand entries.
 #[test]
-fn summaries_of_larger_matrices(rt: HostRuntime) -> Result<(), Fail> {
-    for seed in ["0", "1", "12345"] {
-        let serial = ["load", "--size", "3400", "--engine", "pf", "--seed", seed];
-        let (_, wanted) = answer(&rt, &serial, b"")?;
-        for workers in NUMBERS {
-            let words = [
-                "load",
-                "--size",
-                "3400",
-                "--workers",
-                workers,
-                "--seed",
-                seed,
-            ];
-            let (_, found) = answer(&rt, &words, b"")?;
-            assert_eq!(rt; found.as_slice(), wanted.as_slice(), "{workers} workers");
-        }
-    }
-    Ok(())
+fn summaries_of_larger_matrices(rt: HostRuntime) {
+    assert!(rt; same_summaries(&rt, "--seed 0"));
+    assert!(rt; same_summaries(&rt, "--seed 1"));
+    assert!(rt; same_summaries(&rt, "--seed 12345"));
 }

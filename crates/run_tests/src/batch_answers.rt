@@ -1,5 +1,5 @@
-//! A batch of a good file, a file without a banner, a file of too many rows and a file without
-//! bytes.
+//! The answers to a batch of a good file, a file without a banner, a file of too many rows and a file
+//! without bytes.
 
 ghost use Rattle.std.specs.Prelude.{◌≡◌, ◌≤◌, ◌<◌, length, IfOk};
 ghost use Rattle.claim_words.specs.Listed.{nothing};
@@ -8,14 +8,13 @@ ghost use Rattle.sp_ids.specs.Limits.{max_workers};
 ghost use Rattle.mm_frames.specs.Batches.{files_of};
 ghost use Rattle.batch_core.specs.Shares.{IsAnswerAt, IsWithinLimits};
 
-use crate::{Answers, Put, Share, answer_all};
+use batch_core::{Answers, Put, Share, answer_all};
 use btf_tool::{FileAnswer, answer_bytes};
 use claim_words::{ClaimBoard, ClaimSeat};
 use mm_defs::Kind;
 use sp_ids::OutOfMemory;
-use sp_ports::{Gate, NoGate};
+use sp_ports::NoGate;
 use std::alloc::Global;
-use std::process::Abort;
 use std::test::Fail;
 use std::thread::Threads;
 
@@ -123,28 +122,46 @@ fn board_for_two(alloc: Global) -> Result<(ClaimBoard, ClaimSeat, ClaimSeat), Ou
     Ok((board, zero, one))
 }
 
-// Each file has its answer, in the order of the files.
-fn are_for_all_files<R: Abort>(rt: &R, answers: &[(u32, FileAnswer)]) {
-    assert_eq!(rt; answers.len(), 4);
+// Whether each file has its answer, in the order of the files.
+fn are_for_all_files(answers: &[(u32, FileAnswer)]) -> bool {
     for (place, listed) in answers.iter().enumerate() {
-        assert_eq!(rt; listed.0 as usize, place);
-        assert_eq!(rt; Some(told_by(&listed.1)), FOUND.get(place).copied());
+        if listed.0 as usize != place || Some(told_by(&listed.1)) != FOUND.get(place).copied() {
+            return false;
+        }
     }
+    answers.len() == 4
+}
+
+// Whether the second worker, which comes first, answers all files, and the first none.
+fn second_has_all<R: Threads + Sync>(
+    rt: &R,
+    alloc: Global,
+    files: &[Vec<u8>],
+    board: &ClaimBoard,
+    zero: ClaimSeat,
+    one: ClaimSeat,
+) -> Result<bool, OutOfMemory>
+    requires files { IsWithinLimits (files_of files.now) }
+    requires count { length files.now ≡ 4 }
+    requires rows { length board.now.rows ≡ 4 }
+    requires roots { length board.now.roots ≡ 2 }
+    requires zero { zero.board ≡ board.now }
+    requires one { one.board ≡ board.now }
+{
+    let mut first = Share::new(alloc, files, zero);
+    let mut second = Share::new(alloc, files, one);
+    second.work(rt, board, &NoGate, 1)?;
+    first.work(rt, board, &NoGate, 0)?;
+    let (_seat, none) = first.into_parts();
+    let (_seat, all) = second.into_parts();
+    Ok(none.is_empty() && are_for_all_files(all.as_slice()))
 }
 
 #[test]
 fn a_file_is_claimed_by_one_worker(rt: HostRuntime) -> Result<(), Fail> {
-    let alloc = rt.alloc();
-    let files = batch(alloc)?;
-    let (board, zero, one) = board_for_two(alloc)?;
-    let mut first = Share::new(alloc, files.as_slice(), zero);
-    let mut second = Share::new(alloc, files.as_slice(), one);
-    second.work(&rt, &board, &NoGate, 1)?;
-    first.work(&rt, &board, &NoGate, 0)?;
-    let (_seat, none) = first.into_parts();
-    assert_eq!(rt; none.len(), 0);
-    let (_seat, all) = second.into_parts();
-    are_for_all_files(&rt, all.as_slice());
+    let files = batch(rt.alloc())?;
+    let (board, zero, one) = board_for_two(rt.alloc())?;
+    assert!(rt; second_has_all(&rt, rt.alloc(), files.as_slice(), &board, zero, one)?);
     Ok(())
 }
 
@@ -162,19 +179,49 @@ fn answer_of<R: Threads + Sync>(
     answer_bytes(rt, alloc, files[file as usize].as_slice())
 }
 
+// Whether what stands in a slot is this.
+fn has(answers: &Answers<'_>, file: u32, found: Option<Found>) -> bool
+    requires { file < length answers.now.files }
+{
+    answers.get(file).map(told_by) == found
+}
+
+// Whether the first of two answers to a file goes into its empty slot, and stays there.
+fn keeps_the_first(answers: &mut Answers<'_>, bad: FileAnswer, again: FileAnswer) -> bool
+    requires count { length answers.old.files ≡ 4 }
+    requires bad { IsAnswerAt answers.old.files 1 bad }
+    requires again { IsAnswerAt answers.old.files 1 again }
+{
+    let was_empty = has(answers, 1, None);
+    let first = answers.put(1, bad);
+    let is_full = has(answers, 1, Some(NO_BANNER));
+    let second = answers.put(1, again);
+    was_empty
+        && is_full
+        && (first, second) == (Put::Stored, Put::Held)
+        && has(answers, 1, Some(NO_BANNER))
+        && has(answers, 0, None)
+}
+
+// Whether that holds of answers to the four files.
+fn keeps_the_first_of<R: Threads + Sync>(
+    rt: &R,
+    alloc: Global,
+    files: &[Vec<u8>],
+) -> Result<bool, OutOfMemory>
+    requires within { IsWithinLimits (files_of files.now) }
+    requires count { length files.now ≡ 4 }
+{
+    let bad = answer_of(rt, alloc, files, 1)?;
+    let again = answer_of(rt, alloc, files, 1)?;
+    let mut answers = Answers::new(alloc, files)?;
+    Ok(keeps_the_first(&mut answers, bad, again))
+}
+
 #[test]
 fn a_full_slot_keeps_what_it_has(rt: HostRuntime) -> Result<(), Fail> {
-    let alloc = rt.alloc();
-    let files = batch(alloc)?;
-    let mut answers = Answers::new(alloc, files.as_slice())?;
-    assert!(rt; answers.get(1).is_none());
-    let bad = answer_of(&rt, alloc, files.as_slice(), 1)?;
-    assert_eq!(rt; answers.put(1, bad), Put::Stored);
-    assert_eq!(rt; answers.get(1).map(told_by), Some(NO_BANNER));
-    let again = answer_of(&rt, alloc, files.as_slice(), 1)?;
-    assert_eq!(rt; answers.put(1, again), Put::Held);
-    assert_eq!(rt; answers.get(1).map(told_by), Some(NO_BANNER));
-    assert!(rt; answers.get(0).is_none());
+    let files = batch(rt.alloc())?;
+    assert!(rt; keeps_the_first_of(&rt, rt.alloc(), files.as_slice())?);
     Ok(())
 }
 
@@ -183,45 +230,68 @@ fn are_all_found(answers: &Answers<'_>) -> bool
     requires { length answers.now.files ≡ 4 }
 {
     for file in 0..4 {
-        if answers.get(file).map(told_by) != FOUND.get(file as usize).copied() {
+        if !has(answers, file, FOUND.get(file as usize).copied()) {
             return false;
         }
     }
     true
 }
 
+// Whether an answer goes into its slot, and the rest is filled then.
+fn fills_the_rest<R: Threads + Sync>(
+    rt: &R,
+    answers: &mut Answers<'_>,
+    large: FileAnswer,
+) -> Result<bool, OutOfMemory>
+    requires count { length answers.old.files ≡ 4 }
+    requires large { IsAnswerAt answers.old.files 2 large }
+{
+    let put = answers.put(2, large);
+    answers.fill_rest(rt)?;
+    Ok(put == Put::Stored && are_all_found(answers))
+}
+
+// Whether that holds of the four files.
+fn fills_the_rest_of<R: Threads + Sync>(
+    rt: &R,
+    alloc: Global,
+    files: &[Vec<u8>],
+) -> Result<bool, OutOfMemory>
+    requires within { IsWithinLimits (files_of files.now) }
+    requires count { length files.now ≡ 4 }
+{
+    let large = answer_of(rt, alloc, files, 2)?;
+    let mut answers = Answers::new(alloc, files)?;
+    fills_the_rest(rt, &mut answers, large)
+}
+
 #[test]
 fn the_rest_is_filled(rt: HostRuntime) -> Result<(), Fail> {
-    let alloc = rt.alloc();
-    let files = batch(alloc)?;
-    let mut answers = Answers::new(alloc, files.as_slice())?;
-    let large = answer_of(&rt, alloc, files.as_slice(), 2)?;
-    assert_eq!(rt; answers.put(2, large), Put::Stored);
-    answers.fill_rest(&rt)?;
-    assert!(rt; are_all_found(&answers));
+    let files = batch(rt.alloc())?;
+    assert!(rt; fills_the_rest_of(&rt, rt.alloc(), files.as_slice())?);
     Ok(())
 }
 
 // Whether so many workers find what is to be found.
-fn workers_find_all<R: Threads + Sync, G: Gate>(
+fn workers_find_all<R: Threads + Sync>(
     rt: &R,
     alloc: Global,
     workers: u32,
-    gate: &G,
 ) -> Result<bool, OutOfMemory>
     requires some { 1 ≤ workers }
     requires few { workers ≤ max_workers }
 {
     let files = batch(alloc)?;
-    let answers = answer_all(rt, alloc, files.as_slice(), workers, gate)?;
-    Ok(are_all_found(&answers))
+    match answer_all(rt, alloc, files.as_slice(), workers, &NoGate) {
+        Err(error) => Err(error),
+        Ok(answers) => Ok(are_all_found(&answers)),
+    }
 }
 
 #[test]
 fn any_number_of_workers_finds_the_same(rt: HostRuntime) -> Result<(), Fail> {
-    let alloc = rt.alloc();
-    for workers in [1, 2, 64] {
-        assert_eq!(rt; workers_find_all(&rt, alloc, workers, &NoGate), Ok(true));
-    }
+    assert!(rt; workers_find_all(&rt, rt.alloc(), 1)?);
+    assert!(rt; workers_find_all(&rt, rt.alloc(), 2)?);
+    assert!(rt; workers_find_all(&rt, rt.alloc(), 64)?);
     Ok(())
 }
