@@ -7,7 +7,7 @@ ghost use Rattle.sp_ports.specs.Bytes.{GivesPrefix, IsAtEnd};
 ghost use Rattle.sp_ports.specs.Device.{seen};
 ghost use Rattle.mm_defs.specs.Calls.{TakesAtMostOnePast, room};
 ghost use Rattle.mm_reader.specs.Fronts.{front};
-ghost use Rattle.mm_reader.specs.Inputs.{OnCall};
+ghost use Rattle.mm_reader.specs.Inputs.{Asks, CanRead, Draws, OnCall};
 ghost use Rattle.mm_frames.specs.Batches.{BatchFault, FailsByFailedRead, HasFrameKind, IsFrameAnswerTo, ReadsBatch, RefusesBatch, StaysGood, files_of, first_bad_file};
 ghost use Rattle.mm_frames.specs.Frames.{AnswersFile, AnswersLast, IsGoodHeader, UsesSuch};
 
@@ -37,8 +37,7 @@ fn read_file<S: Source>(
     before: usize,
     bytes: u64,
 ) -> Result<Vec<u8>, BatchError>
-    requires good { IsTrue input.old.good }
-    requires at_end { IsTrue input.old.at_end → IsAtEnd (S.left source.old) }
+    requires ready { CanRead (S.left source.old) input.old }
     requires few { before < max_batch_files }
     requires small { bytes ≤ max_batch_file_bytes }
     requires most { length input.old.ahead ≤ room input.old + 1 }
@@ -51,11 +50,8 @@ fn read_file<S: Source>(
     ensures small { IfOk result (λ file. length file.items ≤ max_batch_file_bytes) }
     ensures most { length input.new.ahead ≤ room input.new + 1 }
     ensures cause { FailsByFailedRead (seen S.left S.faults source.old source.new) result }
-    ensures at_end { IsTrue input.new.at_end → IsAtEnd (S.left source.new) }
-    ensures unasked { IsTrue input.old.at_end → source.new ≡ source.old }
-    ensures stays { IsTrue input.old.at_end → IsTrue input.new.at_end }
+    ensures asks { Asks S.left source.old source.new input.old input.new }
     ensures good { StaysGood input.new.good result }
-    ensures limit { input.new.limit ≡ input.old.limit }
 {
     let mut file = Vec::new(alloc);
     while (file.len() as u64) < bytes {
@@ -106,8 +102,7 @@ pub fn read_files<S: Source>(
     input: &mut Input,
     source: &mut S,
 ) -> Result<Vec<Vec<u8>>, BatchError>
-    requires good { IsTrue input.old.good }
-    requires at_end { IsTrue input.old.at_end → IsAtEnd (S.left source.old) }
+    requires { CanRead (S.left source.old) input.old }
 
     // What each answer says of the bytes.
     ensures answer { OnCall input.old (seen S.left S.faults source.old source.new) (λ call.
@@ -127,24 +122,15 @@ pub fn read_files<S: Source>(
     ensures small { IfOk result
         (λ v. All (λ file. length file.items ≤ max_batch_file_bytes) v.items) }
 
-    // What is left is the end of what there was. At most one byte was taken past the limit.
-    ensures gave { GivesPrefix (S.left source.old) (S.left source.new) }
-    ensures most { OnCall input.old
-        (seen S.left S.faults source.old source.new) TakesAtMostOnePast }
+    ensures draws { Draws S.left S.faults source.old source.new input.old input.new }
 
     // A failed read is the one cause of `ReadFault`, and at Ok no read has failed.
     ensures cause { FailsByFailedRead (seen S.left S.faults source.old source.new) result }
-
-    // Where a read has given no bytes, the source is not asked again.
-    ensures at_end { IsTrue input.new.at_end → IsAtEnd (S.left source.new) }
-    ensures unasked { IsTrue input.old.at_end → source.new ≡ source.old }
-    ensures stays { IsTrue input.old.at_end → IsTrue input.new.at_end }
 
     // All files were read where a read has given none, whatever the source tells of its bytes.
     ensures ended { OnOk result (IsTrue input.new.at_end) }
 
     ensures good { StaysGood input.new.good result }
-    ensures limit { input.new.limit ≡ input.old.limit }
 {
     let mut files = Vec::new(alloc);
     'reading: loop {

@@ -8,6 +8,7 @@ ghost use Rattle.mm_defs.specs.Faults.{is_limit};
 ghost use Rattle.mm_defs.specs.Words.{words};
 ghost use Rattle.mm_defs.specs.Calls.{room};
 ghost use Rattle.mm_reader.specs.Fronts.{front};
+ghost use Rattle.mm_reader.specs.Inputs.{Asks, CanRead};
 ghost use Rattle.mm_reader.specs.Lines.{IsLine};
 ghost use Rattle.mm_frames.specs.Batches.{FailsByFailedRead, HasFrameKind, StaysGood, file_bytes, header_rules, is_frame_kind};
 ghost use Rattle.mm_frames.specs.Frames.{AnswersHeader, HeaderIs, IsSameStop, JudgedHeader, UsesSuch};
@@ -104,8 +105,7 @@ pub fn read_header<S: Source>(
     source: &mut S,
     before: usize,
 ) -> Result<Option<FrameHeader>, BatchError>
-    requires good { IsTrue input.old.good }
-    requires at_end { IsTrue input.old.at_end → IsAtEnd (S.left source.old) }
+    requires ready { CanRead (S.left source.old) input.old }
     requires few { before ≤ max_batch_files }
     ensures answer { UsesSuch (front input.old) (front input.new)
         (seen S.left S.faults source.old source.new)
@@ -116,14 +116,11 @@ pub fn read_header<S: Source>(
     ensures small { IfOk result (λ header. IfSome header (λ h. h.bytes ≤ max_batch_file_bytes)) }
     ensures most { length input.new.ahead ≤ room input.new + 1 }
     ensures cause { FailsByFailedRead (seen S.left S.faults source.old source.new) result }
-    ensures at_end { IsTrue input.new.at_end → IsAtEnd (S.left source.new) }
-    ensures unasked { IsTrue input.old.at_end → source.new ≡ source.old }
-    ensures stays { IsTrue input.old.at_end → IsTrue input.new.at_end }
+    ensures asks { Asks S.left source.old source.new input.old input.new }
     ensures none { IfOk result (λ header. IfNone header (IsTrue input.new.at_end)) }
     ensures last { IfOk result (λ header. IfSome header (λ h. h.last ≡ true
         → IsTrue input.new.at_end)) }
     ensures good { StaysGood input.new.good result }
-    ensures limit { input.new.limit ≡ input.old.limit }
 {
     let mut line = LineSoFar::new();
     let mut begun = false;

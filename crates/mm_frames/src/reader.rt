@@ -9,7 +9,7 @@ ghost use Rattle.mm_defs.specs.Words.{lines};
 ghost use Rattle.mm_defs.specs.Calls.{HasItsKind, IsAnswerTo, TakesAtMostOnePast};
 ghost use Rattle.mm_frames.specs.Edits.{HasEditKind, IsWithinMatrix, KeepsGood, ReadsEdits, RefusesEdits, edits_of, first_bad_edit};
 ghost use Rattle.mm_frames.specs.Stages.{AreRead, RefusesLast, StandsAfter, TakesLine};
-ghost use Rattle.mm_reader.specs.Inputs.{FailsByReadFault, OnCall};
+ghost use Rattle.mm_reader.specs.Inputs.{CanRead, Draws, FailsByReadFault, OnCall};
 ghost use Rattle.mm_reader.specs.Lines.{IsLine};
 
 use crate::edit::Edit;
@@ -91,8 +91,7 @@ pub fn read_edits<S: Source>(
     rows: u32,
     cols: u32,
 ) -> Result<Vec<Edit>, ReadError>
-    requires good { IsTrue input.old.good }
-    requires at_end { IsTrue input.old.at_end → IsAtEnd (S.left source.old) }
+    requires { CanRead (S.left source.old) input.old }
 
     // What each answer says of the bytes.
     ensures answer { OnCall input.old (seen S.left S.faults source.old source.new) (λ call.
@@ -115,24 +114,15 @@ pub fn read_edits<S: Source>(
     // All places are in the matrix.
     ensures within { IfOk result (λ v. All (IsWithinMatrix rows cols) v.items) }
 
-    // What is left is the end of what there was. At most one byte was taken past the limit.
-    ensures gave { GivesPrefix (S.left source.old) (S.left source.new) }
-    ensures most { OnCall input.old
-        (seen S.left S.faults source.old source.new) TakesAtMostOnePast }
+    ensures draws { Draws S.left S.faults source.old source.new input.old input.new }
 
     // A failed read is the one cause of `ReadFault`, and at Ok no read has failed.
     ensures cause { FailsByReadFault (seen S.left S.faults source.old source.new) result }
-
-    // Where a read has given no bytes, the source is not asked again.
-    ensures at_end { IsTrue input.new.at_end → IsAtEnd (S.left source.new) }
-    ensures unasked { IsTrue input.old.at_end → source.new ≡ source.old }
-    ensures stays { IsTrue input.old.at_end → IsTrue input.new.at_end }
 
     // All lines were read where a read has given none, whatever the source tells of its bytes.
     ensures ended { OnOk result (IsTrue input.new.at_end) }
 
     ensures good { KeepsGood input.new.good result }
-    ensures limit { input.new.limit ≡ input.old.limit }
 {
     let mut edits = Vec::new(alloc);
     let mut line = LineSoFar::new();

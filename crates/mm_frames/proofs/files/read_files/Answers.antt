@@ -9,7 +9,7 @@ use Rattle.sp_ports.specs.Device.{seen}
 use Rattle.mm_reader.specs.Fronts.{front}
 use Rattle.mm_frames.specs.Batches.{files_of}
 use Rattle.mm_frames.proofs.BatchLaws.{bad_frame_on_call}
-use Rattle.mm_frames.proofs.UsedLaws.{most_known}
+use Rattle.mm_frames.proofs.UsedLaws.{asks_none, asks_then, most_known}
 use Rattle.mm_frames.proofs.WholeLaws.{end_answered, file_answered, file_used, files_none, header_answered, header_used, last_answered, less_room, one_file_more}
 use Rattle.mm_frames.proofs.files.read_files.Goals as goal
 
@@ -24,10 +24,8 @@ reading-init g c =
       files = rw e (files_none (front c.args.input.now) (g.S.Source.left c.args.source.now));
       small = λ k d low. absurd (omega arith);
       steady = refl;
-      good = c.requires.good;
-      limit = refl;
-      at_end = c.requires.at_end;
-      unasked = λ t. (t, refl);
+      can = c.requires;
+      asks = asks_none c.requires;
     }
 
 pub returns-in_err-read_header-clause-answer : goal.returns-in_err-read_header-clause-answer
@@ -38,19 +36,16 @@ returns-in_err-read_header-clause-answer g c =
     (header_answered _ _ _ _ _ _ _ _ _ i.steady _ i.files _ (count c.reading.files _ c.len-before.ensures)
     c.in_err-read_header.field-0.0 c.in_err-read_header.ensures.answer)
 
-pub returns-in_err-read_header-clause-gave : goal.returns-in_err-read_header-clause-gave
-returns-in_err-read_header-clause-gave g c =
+pub returns-in_err-read_header-clause-draws : goal.returns-in_err-read_header-clause-draws
+returns-in_err-read_header-clause-draws g c =
     let i = c.reading.invariant in
     let u = c.in_err-read_header.ensures.answer in
     let k = header_used _ _ _ _ _ _ _ _ (g.S.Source.faults c.read_header.new.source) i.steady _ i.files _ (count c.reading.files _ c.len-before.ensures) u.used u.so_far in
-    (k.gave, k.given)
-
-pub returns-in_err-read_header-clause-most : goal.returns-in_err-read_header-clause-most
-returns-in_err-read_header-clause-most g c =
-    let i = c.reading.invariant in
-    let u = c.in_err-read_header.ensures.answer in
-    let k = header_used _ _ _ _ _ _ _ _ (g.S.Source.faults c.read_header.new.source) i.steady _ i.files _ (count c.reading.files _ c.len-before.ensures) u.used u.so_far in
-    most_known _ _ _ _ _ k (g.S.Source.faults c.args.source.now) (g.S.Source.faults c.read_header.new.source) c.in_err-read_header.ensures.most
+    record {
+      gave = (k.gave, k.given);
+      most = most_known _ _ _ _ _ k (g.S.Source.faults c.args.source.now) (g.S.Source.faults c.read_header.new.source) c.in_err-read_header.ensures.most;
+      asks = asks_then i.asks c.in_err-read_header.ensures.asks;
+    }
 
 pub returns-in-None-clause-answer : goal.returns-in-None-clause-answer
 returns-in-None-clause-answer g c =
@@ -64,19 +59,16 @@ returns-then-header-clause-answer g c =
     let u = rw c.in-Some.is at c.in_ok-read_header.ensures.answer in
     last_answered _ _ _ _ _ _ _ _ _ i.steady _ i.files _ (count c.reading.files _ c.len-before.ensures) c.in-Some.header u c.if-header.true c.end_with.result c.end_with.ensures.answer
 
-pub returns-then-header-clause-gave : goal.returns-then-header-clause-gave
-returns-then-header-clause-gave g c =
+pub returns-then-header-clause-draws : goal.returns-then-header-clause-draws
+returns-then-header-clause-draws g c =
     let i = c.reading.invariant in
     let u = c.in_ok-read_header.ensures.answer in
     let k = header_used _ _ _ _ _ _ _ _ (g.S.Source.faults c.read_header.new.source) i.steady _ i.files _ (count c.reading.files _ c.len-before.ensures) u.used u.so_far in
-    (k.gave, k.given)
-
-pub returns-then-header-clause-most : goal.returns-then-header-clause-most
-returns-then-header-clause-most g c =
-    let i = c.reading.invariant in
-    let u = c.in_ok-read_header.ensures.answer in
-    let k = header_used _ _ _ _ _ _ _ _ (g.S.Source.faults c.read_header.new.source) i.steady _ i.files _ (count c.reading.files _ c.len-before.ensures) u.used u.so_far in
-    most_known _ _ _ _ _ k (g.S.Source.faults c.args.source.now) (g.S.Source.faults c.read_header.new.source) c.in_ok-read_header.ensures.most
+    record {
+      gave = (k.gave, k.given);
+      most = most_known _ _ _ _ _ k (g.S.Source.faults c.args.source.now) (g.S.Source.faults c.read_header.new.source) c.in_ok-read_header.ensures.most;
+      asks = asks_then i.asks c.in_ok-read_header.ensures.asks;
+    }
 
 pub returns-in_err-file-clause-answer : goal.returns-in_err-file-clause-answer
 returns-in_err-file-clause-answer g c =
@@ -87,41 +79,31 @@ returns-in_err-file-clause-answer g c =
     (file_answered _ _ _ _ _ _ _ _ _ i.steady _ i.files _ (count c.reading.files _ c.len-before.ensures) c.in-Some.header u c.if-header.false
     c.in_ok-read_header.ensures.cause.steady _ _ _ c.in_err-file.field-0.0 (c.in_err-file.ensures.answer u.such.line u.such.good))
 
-pub returns-in_err-file-clause-gave : goal.returns-in_err-file-clause-gave
-returns-in_err-file-clause-gave g c =
+pub returns-in_err-file-clause-draws : goal.returns-in_err-file-clause-draws
+returns-in_err-file-clause-draws g c =
     let i = c.reading.invariant in
     let u = rw c.in-Some.is at c.in_ok-read_header.ensures.answer in
     let v = c.in_err-file.ensures.answer u.such.line u.such.good in
     let k = file_used _ _ _ _ _ _ _ _ _ i.steady _ i.files _ (count c.reading.files _ c.len-before.ensures) c.in-Some.header u c.if-header.false
     c.in_ok-read_header.ensures.cause.steady _ _ (g.S.Source.faults c.read_file.new.source) v.used v.so_far in
-    (k.gave, k.given)
+    record {
+      gave = (k.gave, k.given);
+      most = most_known _ _ _ _ _ k (g.S.Source.faults c.args.source.now) (g.S.Source.faults c.read_file.new.source) c.in_err-file.ensures.most;
+      asks = asks_then i.asks (asks_then c.in_ok-read_header.ensures.asks c.in_err-file.ensures.asks);
+    }
 
-pub returns-in_err-file-clause-most : goal.returns-in_err-file-clause-most
-returns-in_err-file-clause-most g c =
-    let i = c.reading.invariant in
-    let u = rw c.in-Some.is at c.in_ok-read_header.ensures.answer in
-    let v = c.in_err-file.ensures.answer u.such.line u.such.good in
-    let k = file_used _ _ _ _ _ _ _ _ _ i.steady _ i.files _ (count c.reading.files _ c.len-before.ensures) c.in-Some.header u c.if-header.false
-    c.in_ok-read_header.ensures.cause.steady _ _ (g.S.Source.faults c.read_file.new.source) v.used v.so_far in
-    most_known _ _ _ _ _ k (g.S.Source.faults c.args.source.now) (g.S.Source.faults c.read_file.new.source) c.in_err-file.ensures.most
-
-pub returns-in-Err-clause-gave : goal.returns-in-Err-clause-gave
-returns-in-Err-clause-gave g c =
+pub returns-in-Err-clause-draws : goal.returns-in-Err-clause-draws
+returns-in-Err-clause-draws g c =
     let i = c.reading.invariant in
     let u = rw c.in-Some.is at c.in_ok-read_header.ensures.answer in
     let v = c.in_ok-file.ensures.answer u.such.line u.such.good in
     let k = file_used _ _ _ _ _ _ _ _ _ i.steady _ i.files _ (count c.reading.files _ c.len-before.ensures) c.in-Some.header u c.if-header.false
     c.in_ok-read_header.ensures.cause.steady _ _ (g.S.Source.faults c.read_file.new.source) v.used v.so_far in
-    (k.gave, k.given)
-
-pub returns-in-Err-clause-most : goal.returns-in-Err-clause-most
-returns-in-Err-clause-most g c =
-    let i = c.reading.invariant in
-    let u = rw c.in-Some.is at c.in_ok-read_header.ensures.answer in
-    let v = c.in_ok-file.ensures.answer u.such.line u.such.good in
-    let k = file_used _ _ _ _ _ _ _ _ _ i.steady _ i.files _ (count c.reading.files _ c.len-before.ensures) c.in-Some.header u c.if-header.false
-    c.in_ok-read_header.ensures.cause.steady _ _ (g.S.Source.faults c.read_file.new.source) v.used v.so_far in
-    most_known _ _ _ _ _ k (g.S.Source.faults c.args.source.now) (g.S.Source.faults c.read_file.new.source) c.in_ok-file.ensures.most
+    record {
+      gave = (k.gave, k.given);
+      most = most_known _ _ _ _ _ k (g.S.Source.faults c.args.source.now) (g.S.Source.faults c.read_file.new.source) c.in_ok-file.ensures.most;
+      asks = asks_then i.asks (asks_then c.in_ok-read_header.ensures.asks c.in_ok-file.ensures.asks);
+    }
 
 pub reading-smaller : goal.reading-smaller
 reading-smaller g c =
@@ -142,13 +124,8 @@ reading-preserved g c =
       files = rw (e, a) m;
       small = rw e (All-push (λ (file : Vec ℕ). length file.items ≤ max_batch_file_bytes) c.reading.files.items c.in_ok-file.file i.small c.in_ok-file.ensures.small);
       steady = c.in_ok-file.ensures.cause.steady ∙ c.in_ok-read_header.ensures.cause.steady ∙ i.steady;
-      good = c.in_ok-file.ensures.good;
-      limit = c.in_ok-file.ensures.limit ∙ c.in_ok-read_header.ensures.limit ∙ i.limit;
-      at_end = c.in_ok-file.ensures.at_end;
-      unasked = λ t.
-          let old = i.unasked t in
-          let header = c.in_ok-read_header.ensures.stays old.0 in
-          (c.in_ok-file.ensures.stays header, c.in_ok-file.ensures.unasked header ∙ c.in_ok-read_header.ensures.unasked old.0 ∙ old.1);
+      can = record { good = c.in_ok-file.ensures.good; at_end = c.in_ok-file.ensures.asks.at_end };
+      asks = asks_then i.asks (asks_then c.in_ok-read_header.ensures.asks c.in_ok-file.ensures.asks);
     }
 
 pub returns-in_err-read_header-clause-bad : goal.returns-in_err-read_header-clause-bad
