@@ -9,6 +9,6 @@ returns-in-Ok-clause-tells g c = tells_known c.args.end c.input.inside c.input.i
 
 pub returns-in-Ok-clause-ends : goal.returns-in-Ok-clause-ends
 returns-in-Ok-clause-ends g c = record {
-  ended = c.in-Ok.ensures.ended;
-  last_line = last_line_known c.args.end c.input.inside c.input.invariant c.args.input.now c.input.view_is c.matrix.new.window (g.S.Source.faults c.args.source.now) (g.S.Source.faults c.matrix.new.source) _ _ c.in-Ok.ensures.last_line;
+  ended = c.in-Ok.ensures.ends.ended;
+  last_line = last_line_known c.args.end c.input.inside c.input.invariant c.args.input.now c.input.view_is c.matrix.new.window (g.S.Source.faults c.args.source.now) (g.S.Source.faults c.matrix.new.source) _ _ c.in-Ok.ensures.ends.last_line;
 }
