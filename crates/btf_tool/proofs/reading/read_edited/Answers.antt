@@ -25,8 +25,8 @@ returns-in_err-edits-clause-unread g c =
     (edits_not_read input mid c.read_matrix.new.input (g.S.Source.faults c.read_matrix.new.source) c.in_ok-triples.triples c.in_err-edits.field-0.0
     (m.draws.asks.limit ∙ ap (λ (i : Intake). i.limit) c.in_ok-bytes.ensures)
     (seen_on (g.S.Source.left c.args.input.now) mid c.read_matrix.new.input c.in_ok-triples.triples (has_read _ _ _ _ _ _ _ c.in_ok-bytes.ensures m.tells.answer m.counts.taken) (counts_lines c.in_ok-bytes.bytes c.read_matrix.new.input (g.S.Source.left c.args.input.now) mid c.in_ok-bytes.ensures m.counts.lines))
-    (rw (← c.rows-rows.ensures, ← c.cols-cols.ensures) c.in_err-edits.ensures.answer)
-    c.in_err-edits.ensures.draws.gave c.in_err-edits.ensures.kind m.fares.cause.steady (λ e. c.in_err-edits.ensures.cause.failed (ap Err e)))
+    (rw (← c.rows-rows.ensures, ← c.cols-cols.ensures) c.in_err-edits.ensures.tells.answer)
+    c.in_err-edits.ensures.draws.gave c.in_err-edits.ensures.gives.kind m.fares.cause.steady (λ e. c.in_err-edits.ensures.cause.failed (ap Err e)))
 
 pub returns-clause-read : goal.returns-clause-read
 returns-clause-read g c =
@@ -36,8 +36,8 @@ returns-clause-read g c =
     edited_read input mid c.read_matrix.new.input (g.S.Source.faults c.read_matrix.new.source) c.in_ok-triples.triples c.in_ok-edits.edits.items c.read_edits.new.input.ahead
     (m.draws.asks.limit ∙ ap (λ (i : Intake). i.limit) c.in_ok-bytes.ensures)
     (seen_on (g.S.Source.left c.args.input.now) mid c.read_matrix.new.input c.in_ok-triples.triples (has_read _ _ _ _ _ _ _ c.in_ok-bytes.ensures m.tells.answer m.counts.taken) (counts_lines c.in_ok-bytes.bytes c.read_matrix.new.input (g.S.Source.left c.args.input.now) mid c.in_ok-bytes.ensures m.counts.lines))
-    (rw (← c.rows-rows.ensures, ← c.cols-cols.ensures) c.in_ok-edits.ensures.answer)
-    c.in_ok-edits.ensures.draws.gave m.fares.cause.steady (c.in_ok-edits.ensures.cause.steady ∙ m.fares.cause.steady) c.in_ok-edits.ensures.said
+    (rw (← c.rows-rows.ensures, ← c.cols-cols.ensures) c.in_ok-edits.ensures.tells.answer)
+    c.in_ok-edits.ensures.draws.gave m.fares.cause.steady (c.in_ok-edits.ensures.cause.steady ∙ m.fares.cause.steady) c.in_ok-edits.ensures.gives.said
 
 pub returns-clause-gave : goal.returns-clause-gave
 returns-clause-gave g c =

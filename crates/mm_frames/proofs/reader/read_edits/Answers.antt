@@ -1,11 +1,10 @@
 use Rattle.std.proofs.Common.{◌≡◌, false, length, List, [], ◌∷◌, ◌++◌, refl, sym, ap, subst, ◌∙◌, arith}
 use Rattle.std.proofs.lemmas.Result.{err_from_is_err_and}
-use Rattle.sp_ports.specs.Device.{seen}
 use Rattle.mm_defs.specs.Words.{lines, open_line}
 use Rattle.mm_reader.specs.Fronts.{front}
 use Rattle.mm_frames.specs.declared.edit.Edit.{Edit}
 use Rattle.mm_frames.specs.Stages.{HasRead}
-use Rattle.mm_frames.proofs.ReadLaws.{bad_line_on_call, read_at_start, read_byte, read_lf, lf_number, byte_fits, stop_known, line_known}
+use Rattle.mm_frames.proofs.ReadLaws.{edits_told, read_at_start, read_byte, read_lf, lf_number, byte_fits, stop_known, line_known}
 use Rattle.mm_frames.proofs.UsedLaws.{asks_none, asks_then, stopped_used, one_more, most_known}
 use Rattle.mm_frames.proofs.reader.read_edits.Goals as goal
 
@@ -22,13 +21,13 @@ reading-init g c =
       fits = λ e. absurd cc;
     }
 
-pub returns-in_err-next_byte-clause-answer : goal.returns-in_err-next_byte-clause-answer
-returns-in_err-next_byte-clause-answer g c =
+pub returns-in_err-next_byte-clause-tells : goal.returns-in_err-next_byte-clause-tells
+returns-in_err-next_byte-clause-tells g c =
     let i = c.reading.invariant in
     let q = err_from_is_err_and c.from_residual.result c.from_residual.ensures.1 in
     rw (q.1, q.2)
-    (stop_known c.args.rows c.args.cols (front c.args.input.now) (front c.reading.input) (front c.next_byte.new.input) (g.S.Source.left c.args.source.now) (g.S.Source.left c.reading.source) (g.S.Source.left c.next_byte.new.source)
-    (g.S.Source.faults c.args.source.now) (g.S.Source.faults c.reading.source) (g.S.Source.faults c.next_byte.new.source) c.reading.edits.items c.reading.line c.reading.begun i.read i.steady c.in_err-next_byte.field-0.0 c.in_err-next_byte.ensures.err)
+    (edits_told _ _ _ _ _ _ (stop_known c.args.rows c.args.cols (front c.args.input.now) (front c.reading.input) (front c.next_byte.new.input) (g.S.Source.left c.args.source.now) (g.S.Source.left c.reading.source) (g.S.Source.left c.next_byte.new.source)
+    (g.S.Source.faults c.args.source.now) (g.S.Source.faults c.reading.source) (g.S.Source.faults c.next_byte.new.source) c.reading.edits.items c.reading.line c.reading.begun i.read i.steady c.in_err-next_byte.field-0.0 c.in_err-next_byte.ensures.err))
 
 pub returns-in_err-next_byte-clause-draws : goal.returns-in_err-next_byte-clause-draws
 returns-in_err-next_byte-clause-draws g c =
@@ -48,8 +47,8 @@ finish-requires g c begun =
     let u = rw c.in-None.is at c.in_ok-next_byte.ensures.ok in
     omega (arith, c.lines.ensures, u.lines_are)
 
-pub returns-in_err-take_line-in-Some-eq10-clause-answer : goal.returns-in_err-take_line-in-Some-eq10-clause-answer
-returns-in_err-take_line-in-Some-eq10-clause-answer g c =
+pub returns-in_err-take_line-in-Some-eq10-clause-tells : goal.returns-in_err-take_line-in-Some-eq10-clause-tells
+returns-in_err-take_line-in-Some-eq10-clause-tells g c =
     let i = c.reading.invariant in
     let b = c.in-Some-eq10 in
     let u = rw b.is at c.in_ok-next_byte.ensures.ok in
@@ -58,9 +57,9 @@ returns-in_err-take_line-in-Some-eq10-clause-answer g c =
     (g.S.Source.faults c.reading.source) (g.S.Source.faults c.next_byte.new.source) b.field-0 c.reading.edits.items c.reading.line c.reading.line c.reading.begun r u c.lines-in-Some-eq10.result b.field-0-test c.lines-in-Some-eq10.ensures in
     let q = err_from_is_err_and c.from_residual-in_err-take_line-in-Some-eq10.result c.from_residual-in_err-take_line-in-Some-eq10.ensures.1 in
     rw (q.1, q.2)
-    (line_known c.args.rows c.args.cols (front c.args.input.now) (front c.reading.input) (front c.next_byte.new.input) (g.S.Source.left c.args.source.now) (g.S.Source.left c.reading.source) (g.S.Source.left c.next_byte.new.source)
+    (edits_told _ _ _ _ _ _ (line_known c.args.rows c.args.cols (front c.args.input.now) (front c.reading.input) (front c.next_byte.new.input) (g.S.Source.left c.args.source.now) (g.S.Source.left c.reading.source) (g.S.Source.left c.next_byte.new.source)
     (g.S.Source.faults c.args.source.now) (g.S.Source.faults c.reading.source) (g.S.Source.faults c.next_byte.new.source) c.reading.edits.items c.reading.line c.reading.begun r b.field-0 b.field-0-test u c.in_err-take_line-in-Some-eq10.field-0.0
-    (c.in_err-take_line-in-Some-eq10.ensures.steps c.args.input.now.lines (open_line r.used) r.stands.open_is (lines false r.used) r.stands.lines_are n))
+    (c.in_err-take_line-in-Some-eq10.ensures.steps c.args.input.now.lines (open_line r.used) r.stands.open_is (lines false r.used) r.stands.lines_are n)))
 
 pub returns-in_err-take_line-in-Some-eq10-clause-draws : goal.returns-in_err-take_line-in-Some-eq10-clause-draws
 returns-in_err-take_line-in-Some-eq10-clause-draws g c =
@@ -111,13 +110,3 @@ reading-preserved g c =
       fits = λ e. byte_fits c.args.rows c.args.cols (front c.args.input.now) (front c.reading.input) (front c.next_byte.new.input) (g.S.Source.left c.args.source.now) (g.S.Source.left c.reading.source) (g.S.Source.left c.next_byte.new.source)
           (g.S.Source.faults c.reading.source) (g.S.Source.faults c.next_byte.new.source) b.byte c.reading.edits.items c.reading.line c.push.new.self c.reading.begun r u b.byte-test.1 c.in_ok-next_byte.ensures.fits;
     }
-
-pub returns-in_err-next_byte-clause-bad : goal.returns-in_err-next_byte-clause-bad
-returns-in_err-next_byte-clause-bad g c =
-    bad_line_on_call c.args.rows c.args.cols c.args.input.now (seen g.S.Source.left g.S.Source.faults c.args.source.now c.next_byte.new.source) c.next_byte.new.input.ahead c.from_residual.result
-    (returns-in_err-next_byte-clause-answer g c)
-
-pub returns-in_err-take_line-in-Some-eq10-clause-bad : goal.returns-in_err-take_line-in-Some-eq10-clause-bad
-returns-in_err-take_line-in-Some-eq10-clause-bad g c =
-    bad_line_on_call c.args.rows c.args.cols c.args.input.now (seen g.S.Source.left g.S.Source.faults c.args.source.now c.next_byte.new.source) c.next_byte.new.input.ahead c.from_residual-in_err-take_line-in-Some-eq10.result
-    (returns-in_err-take_line-in-Some-eq10-clause-answer g c)
