@@ -6,9 +6,10 @@
 In the last column of the table of docs/PROVED.md stands `function` or `function: clause, clause`, for the crates of the row. Each
 has to be a public function, or a method of a trait, in the src/ of one of them, or of a crate that the field names, with these
 clauses in its contract. The same is asked of docs/REFUSALS.md: its calls and its clauses. `Type::function` is that of the type or
-trait alone, `crate::function` that of the crate alone; a bare name that several types of the crate have is refused. `clause.field` is a field of
-the one record that the clause names and that has such a field, and `clause.field.field` a field of the record that this field names.
-It ends with 1 and a line for each that is not there. It reads no contract: whether a clause says what is claimed is for people.
+trait alone, `crate::function` that of the crate alone; a bare name that several types of the crate have is refused. `clause.field`
+is a field of the one record that the clause names and that has such a field, and `clause.field.field` a field of the record that
+this field names. It ends with 1 and a line for each that is not there. It reads no contract: whether a clause says what is claimed
+is for people.
 """
 import functools
 import os
@@ -101,6 +102,11 @@ def rows(path):
                 yield [cell.strip() for cell in line.strip().strip("|").split(" | ")]
 
 
+def has_clause(known, clause, *path):
+    """Whether a clause stands among these, with the fields of the path where there is one."""
+    return clause in known and has_fields(*known[clause], path)
+
+
 def missing(call, clauses, crates):
     """What is missing of a function with these clauses in one of the crates."""
     *whose, name = call.split("::")
@@ -117,11 +123,8 @@ def missing(call, clauses, crates):
     have = free or have
     if len({owner for _, owner in have}) > 1:
         return [f"{call} is of several types: {', '.join(sorted(owner for _, owner in have))}"]
-    return [f"no clause {clause} of {call}" for clause in clauses if not any(has_clause(known, *clause.split(".")) for known in have.values())]
-
-
-def has_clause(known, clause, *path):
-    return clause in known and has_fields(*known[clause], path)
+    lacking = [clause for clause in clauses if not any(has_clause(known, *clause.split(".")) for known in have.values())]
+    return [f"no clause {clause} of {call}" for clause in lacking]
 
 
 def with_owner(calls, crates):
