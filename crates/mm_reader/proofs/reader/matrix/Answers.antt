@@ -112,7 +112,7 @@ returns-in-Err-refill g c =
           (g.S.Source.left c.args.source.now) (g.S.Source.left c.reading.source) f none (sym e.ok.done_is ∙ c.if-done.false) s);
       kind = tt;
       within = tt;
-      leaves = leaves _ g.S.Source.faults _ _ _ _ _ h r.window (asks_more (asks_same i.asks u.at_end_same) c.if-window.false (λ t. rw r.kept (i.asks.at_end (rw (← u.at_end_same, ← r.same) t))));
+      leaves = leaves _ g.S.Source.faults _ _ _ _ _ h r.window (asks_more (asks_same {w2 = c.consume.new.window} i.asks u.at_end_same) c.if-window.false (λ t. rw r.kept (i.asks.at_end (rw (← u.at_end_same, ← r.same) t))));
       cause = record {
         fault = record { counts = omega (arith, i.steady, r.cause.counts); steady = tt; failed = λ x. s };
         past = λ x. absurd cc;
@@ -146,7 +146,7 @@ reading-preserved g c =
       ready = e.ok.ready;
       open_now = sym e.ok.done_is ∙ c.if-done.false;
       number = omega (arith, r.room, e.ok.number, e.ok.uses.room_is, i.number);
-      asks = asks_more (asks_same i.asks u.at_end_same) c.if-window.false r.end;
+      asks = asks_more (asks_same {w2 = c.consume.new.window} i.asks u.at_end_same) c.if-window.false r.end;
       steady = r.cause.steady ∙ i.steady;
       fed = fed_refilled c.args.end c.args.window.now c.consume.new.window c.refill.new.window _ _ _ c.consume.new.m f (e.ok.all c.if-done.false) r.bytes r.room r.lines;
     }

@@ -56,7 +56,7 @@ returns-in-Err g c =
     record {
       known = rest_fault c.args.window.now (g.S.Source.faults c.args.source.now) (g.S.Source.faults c.refill.new.source) c.take_ahead.new.bytes.items c.refill.new.window _ _ h r.none s;
       unjudged = tt;
-      leaves = leaves _ g.S.Source.faults _ _ _ _ _ h r.window (asks_more (asks_same i.asks e.at_end) c.if-window.false (λ t. rw r.kept (i.asks.at_end (rw (← e.at_end, ← r.same) t))));
+      leaves = leaves _ g.S.Source.faults _ _ _ _ _ h r.window (asks_more (asks_same {w2 = c.take_ahead.new.window} i.asks e.at_end) c.if-window.false (λ t. rw r.kept (i.asks.at_end (rw (← e.at_end, ← r.same) t))));
       cause = record {
         fault = record { counts = omega (arith, i.steady, r.cause.counts); steady = tt; failed = λ x. s };
         past = λ x. absurd cc;
@@ -81,7 +81,7 @@ reading-preserved g c =
     let r = c.in_default.ensures in
     record {
       window = r.window;
-      asks = asks_more (asks_same i.asks e.at_end) c.if-window.false r.end;
+      asks = asks_more (asks_same {w2 = c.take_ahead.new.window} i.asks e.at_end) c.if-window.false r.end;
       steady = r.cause.steady ∙ i.steady;
       so_far = refilled c.args.window.now c.take_ahead.new.window c.refill.new.window _ _ c.take_ahead.new.bytes.items k _ e.ok.ahead_is r.bytes r.room r.lines;
     }
