@@ -56,10 +56,10 @@ pub record GivesFiles (result : Result (Vec (Vec ℕ)) BatchError) : Type 0 wher
   pub small : IfOk result (λ v. All (λ file. length file.items ≤ max_batch_file_bytes) v.items)
 
 -- A fault comes where the source's count rose, and the input is not good after an error of reading.
-pub record Fares {T : Type 0} (source : Device) (good : Bool)
+pub record Fares {T : Type 0} (source : Device) (is_good : Bool)
     (result : Result T BatchError) : Type 0 where
   pub cause : FailsByFailedRead source result
-  pub good : StaysGood good result
+  pub good : StaysGood is_good result
 
 -- ---- the header of a file, and its bytes
 

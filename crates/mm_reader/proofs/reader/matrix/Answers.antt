@@ -1,4 +1,4 @@
-use Rattle.std.proofs.Common.{◌<◌, [], refl, sym, ◌∙◌, arith, subst}
+use Rattle.std.proofs.Common.{◌<◌, refl, sym, ◌∙◌, arith, subst}
 use Rattle.std.proofs.lemmas.Result.{err_from_is_err_and}
 use Rattle.sp_ports.specs.Device.{SourceRose}
 use Rattle.mm_defs.specs.declared.answers.ReadError.TheVariants as errors
