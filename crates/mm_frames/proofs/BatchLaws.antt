@@ -13,6 +13,7 @@ use Rattle.mm_reader.specs.Inputs.{OnCall}
 use Rattle.mm_frames.specs.declared.batch.BatchError.{BatchError}
 use Rattle.mm_frames.specs.declared.batch.BatchError.TheVariants as errors
 use Rattle.mm_frames.specs.Batches.{AreFrames, BatchFault, HasFrame, IsBatch, IsFrameAnswerTo, ReadsBatch, RefusesBatch, TellsFrame, bad_frame_among, bad_frame_from, behind_frame, behind_header, fault_or, file_bytes, files_of, first_bad_file, first_bad_frame, frame_kind, has_lf, header_rules, header_words}
+use Rattle.mm_frames.specs.Readings.{TellsFiles}
 use Rattle.mm_frames.proofs.FrameLaws.{behind_frame-more, few_before, file-is, frame_has_no_kind, frame_is, has_lf-more, header_words-more, length-behind_frame, none_more, rest-is, some_bytes}
 use Rattle.mm_frames.proofs.UsedLaws.{on_call}
 
@@ -182,9 +183,14 @@ bad_frame_known : (call : Call) (left : List ℕ) (result : Result (Vec (Vec ℕ
 bad_frame_known call left (Ok v) h fault bad = let n = batch_given call (files_of v.items) h.batch in absurd cc
 bad_frame_known call left (Err error) h fault bad = reported call error fault h bad
 
-pub bad_frame_on_call : (input : Intake) (source : Device) (ahead : List ℕ) (result : Result (Vec (Vec ℕ)) BatchError)
+bad_frame_on_call : (input : Intake) (source : Device) (ahead : List ℕ) (result : Result (Vec (Vec ℕ)) BatchError)
     → OnCall input source (λ call. MatchResult result (λ v. ReadsBatch call (files_of v.items) (ahead ++ call.after)) (RefusesBatch call))
     → OnCall input source (λ call. (fault : BatchFault) → first_bad_file call ≡ Some fault → IsFrameAnswerTo fault result)
 bad_frame_on_call input source ahead result h =
     on_call input source (λ call. MatchResult result (λ v. ReadsBatch call (files_of v.items) (ahead ++ call.after)) (RefusesBatch call)) (λ call. (fault : BatchFault) → first_bad_file call ≡ Some fault → IsFrameAnswerTo fault result)
     (λ call k. bad_frame_known call (ahead ++ call.after) result k) h
+
+pub files_told : (input : Intake) (source : Device) (ahead : List ℕ) (result : Result (Vec (Vec ℕ)) BatchError)
+    → OnCall input source (λ call. MatchResult result (λ v. ReadsBatch call (files_of v.items) (ahead ++ call.after)) (RefusesBatch call))
+    → TellsFiles input source ahead result
+files_told input source ahead result h = record { answer = h; bad = bad_frame_on_call input source ahead result h }

@@ -17,6 +17,7 @@ use Rattle.mm_reader.specs.Lines.{IsLine}
 use Rattle.mm_frames.specs.declared.edit.Edit.{Edit}
 use Rattle.mm_defs.specs.EditLines.{edit_faults}
 use Rattle.mm_frames.specs.Edits.{ReadsEdits, RefusesEdits, first_bad_edit}
+use Rattle.mm_frames.specs.Readings.{TellsEdits}
 use Rattle.mm_frames.specs.Stages.{AreRead, HasRead, HasUsed, RefusesLast, StandsAfter}
 use Rattle.mm_defs.proofs.EditLineLemmas.{edit_faults-append}
 use Rattle.mm_frames.proofs.EditLaws.{none_read}
@@ -208,10 +209,15 @@ bad_line_known n rows cols call left (Err errors.TooLong) h fault bad = let k = 
 bad_line_known n rows cols call left (Err errors.ReadFault) h fault bad = let k = h.0 in cc
 bad_line_known n rows cols call left (Err errors.OutOfMemory) h fault bad = tt
 
-pub bad_line_on_call : (rows cols : ℕ) (input : Intake) (source : Device) (ahead : List ℕ) (result : Result (Vec Edit) ReadError)
+bad_line_on_call : (rows cols : ℕ) (input : Intake) (source : Device) (ahead : List ℕ) (result : Result (Vec Edit) ReadError)
     → OnCall input source (λ call. MatchResult result (λ v. ReadsEdits input.lines rows cols call v.items (ahead ++ call.after)) (RefusesEdits input.lines rows cols call))
     → OnCall input source (λ call. (fault : Fault) → first_bad_edit input.lines rows cols call ≡ Some fault → IsAnswerTo fault result)
 bad_line_on_call rows cols input source ahead result h =
     on_call input source (λ call. MatchResult result (λ v. ReadsEdits input.lines rows cols call v.items (ahead ++ call.after)) (RefusesEdits input.lines rows cols call))
     (λ call. (fault : Fault) → first_bad_edit input.lines rows cols call ≡ Some fault → IsAnswerTo fault result)
     (λ call k. bad_line_known input.lines rows cols call (ahead ++ call.after) result k) h
+
+pub edits_told : (rows cols : ℕ) (input : Intake) (source : Device) (ahead : List ℕ) (result : Result (Vec Edit) ReadError)
+    → OnCall input source (λ call. MatchResult result (λ v. ReadsEdits input.lines rows cols call v.items (ahead ++ call.after)) (RefusesEdits input.lines rows cols call))
+    → TellsEdits rows cols input source ahead result
+edits_told rows cols input source ahead result h = record { answer = h; bad = bad_line_on_call rows cols input source ahead result h }

@@ -8,7 +8,7 @@ use Rattle.mm_defs.specs.declared.answers.ReadError.{ReadError}
 use Rattle.mm_defs.specs.declared.answers.ReadError.TheVariants as errors
 use Rattle.mm_defs.specs.Calls.{Call, Intake, room, call_on, ended, given, got, offered, TakesAtMostOnePast}
 use Rattle.mm_reader.specs.Fronts.{Front, IsOver, Stops, UsesByte}
-use Rattle.mm_reader.specs.Inputs.{OnCall}
+use Rattle.mm_reader.specs.Inputs.{Asks, CanRead, OnCall}
 use Rattle.mm_frames.specs.Stages.{HasUsed}
 
 gives_then : (a b c : Option (List ℕ)) (x y : List ℕ) → Gives a b x → Gives b c y → Gives a c (x ++ y)
@@ -170,6 +170,19 @@ module _ (f0 f : Front) (old now : Option (List ℕ)) (used : List ℕ) (h : Has
 
     pub most_known : length f.ahead ≤ f.room + 1 → WhereKnown old now (λ before after. TakesAtMostOnePast (call_on f0.room f0.ahead fb fa before after))
     most_known one = where_known (λ call after. TakesAtMostOnePast call) (λ before after e d u. most_one_past f0 f fb fa used before after u one)
+
+-- no call was made yet
+pub asks_none : {S : Type 0} {left : S → Option (List ℕ)} {source : S} {input : Intake} → CanRead (left source) input → Asks left source source input input
+asks_none can = record { at_end = can.at_end; unasked = λ t. refl; stays = λ t. t; limit = refl }
+
+-- one call after the other
+pub asks_then : {S : Type 0} {left : S → Option (List ℕ)} {s0 s1 s2 : S} {i0 i1 i2 : Intake} → Asks left s0 s1 i0 i1 → Asks left s1 s2 i1 i2 → Asks left s0 s2 i0 i2
+asks_then a b = record {
+  at_end = b.at_end;
+  unasked = λ t. b.unasked (a.stays t) ∙ a.unasked t;
+  stays = λ t. b.stays (a.stays t);
+  limit = b.limit ∙ a.limit;
+}
 
 -- what follows of a call from what holds of it
 pub on_call : (input : Intake) (source : Device) (P Q : Call → Type 0) → ((call : Call) → P call → Q call) → OnCall input source P → OnCall input source Q

@@ -1,15 +1,15 @@
 //! Reading the files of a batch.
 
-ghost use Rattle.std.specs.Prelude.{◌≡◌, ◌≤◌, ◌<◌, ◌+◌, ◌++◌, ℕ, List, Some, length, IfErr, IfOk, IsTrue, MatchResult, OnOk};
+ghost use Rattle.std.specs.Prelude.{◌≡◌, ◌≤◌, ◌<◌, ◌+◌, length, IfErr, IfOk, IsTrue, OnOk};
 ghost use Rattle.std.specs.List.{All};
 ghost use Rattle.sp_ids.specs.Limits.{max_batch_files, max_batch_file_bytes};
-ghost use Rattle.sp_ports.specs.Bytes.{GivesPrefix, IsAtEnd};
 ghost use Rattle.sp_ports.specs.Device.{seen};
-ghost use Rattle.mm_defs.specs.Calls.{TakesAtMostOnePast, room};
+ghost use Rattle.mm_defs.specs.Calls.{room};
 ghost use Rattle.mm_reader.specs.Fronts.{front};
-ghost use Rattle.mm_reader.specs.Inputs.{OnCall};
-ghost use Rattle.mm_frames.specs.Batches.{BatchFault, FailsByFailedRead, HasFrameKind, IsFrameAnswerTo, ReadsBatch, RefusesBatch, StaysGood, files_of, first_bad_file};
-ghost use Rattle.mm_frames.specs.Frames.{AnswersFile, AnswersLast, IsGoodHeader, UsesSuch};
+ghost use Rattle.mm_reader.specs.Inputs.{Asks, CanRead, Draws};
+ghost use Rattle.mm_frames.specs.Batches.{HasFrameKind, files_of};
+ghost use Rattle.mm_frames.specs.Frames.{AnswersLast};
+ghost use Rattle.mm_frames.specs.Readings.{Fares, GivesFile, GivesFiles, TellsFile, TellsFiles};
 
 use crate::batch::BatchError;
 use crate::header::{read_header, stopped};
@@ -37,25 +37,16 @@ fn read_file<S: Source>(
     before: usize,
     bytes: u64,
 ) -> Result<Vec<u8>, BatchError>
-    requires good { IsTrue input.old.good }
-    requires at_end { IsTrue input.old.at_end → IsAtEnd (S.left source.old) }
+    requires ready { CanRead (S.left source.old) input.old }
     requires few { before < max_batch_files }
     requires small { bytes ≤ max_batch_file_bytes }
     requires most { length input.old.ahead ≤ room input.old + 1 }
-    ensures answer { (line : List ℕ) → IsGoodHeader before line bytes
-        → UsesSuch (front input.old) (front input.new)
-        (seen S.left S.faults source.old source.new)
-        (AnswersFile before line bytes (front input.new)
-        (seen S.left S.faults source.old source.new) result) }
-    ensures kind { IfErr result HasFrameKind }
-    ensures small { IfOk result (λ file. length file.items ≤ max_batch_file_bytes) }
+    ensures answer { TellsFile before bytes (front input.old) (front input.new)
+        (seen S.left S.faults source.old source.new) result }
+    ensures gives { GivesFile result }
     ensures most { length input.new.ahead ≤ room input.new + 1 }
-    ensures cause { FailsByFailedRead (seen S.left S.faults source.old source.new) result }
-    ensures at_end { IsTrue input.new.at_end → IsAtEnd (S.left source.new) }
-    ensures unasked { IsTrue input.old.at_end → source.new ≡ source.old }
-    ensures stays { IsTrue input.old.at_end → IsTrue input.new.at_end }
-    ensures good { StaysGood input.new.good result }
-    ensures limit { input.new.limit ≡ input.old.limit }
+    ensures asks { Asks S.left source.old source.new input.old input.new }
+    ensures fares { Fares (seen S.left S.faults source.old source.new) input.new.good result }
 {
     let mut file = Vec::new(alloc);
     while (file.len() as u64) < bytes {
@@ -106,45 +97,15 @@ pub fn read_files<S: Source>(
     input: &mut Input,
     source: &mut S,
 ) -> Result<Vec<Vec<u8>>, BatchError>
-    requires good { IsTrue input.old.good }
-    requires at_end { IsTrue input.old.at_end → IsAtEnd (S.left source.old) }
-
-    // What each answer says of the bytes.
-    ensures answer { OnCall input.old (seen S.left S.faults source.old source.new) (λ call.
-        MatchResult result (λ v. ReadsBatch call (files_of v.items)
-        (input.new.ahead ++ call.after)) (RefusesBatch call)) }
-
-    // A bad frame is answered, and the first one.
-    ensures bad { OnCall input.old (seen S.left S.faults source.old source.new)
-        (λ call. (fault : BatchFault) →
-        first_bad_file call ≡ Some fault → IsFrameAnswerTo fault result) }
-
-    // `Limit` tells what passes a limit, and `Malformed` what does not: a kind of frames.
-    ensures kind { IfErr result HasFrameKind }
-
-    // The files are within the limits.
-    ensures few { IfOk result (λ v. length v.items ≤ max_batch_files) }
-    ensures small { IfOk result
-        (λ v. All (λ file. length file.items ≤ max_batch_file_bytes) v.items) }
-
-    // What is left is the end of what there was. At most one byte was taken past the limit.
-    ensures gave { GivesPrefix (S.left source.old) (S.left source.new) }
-    ensures most { OnCall input.old
-        (seen S.left S.faults source.old source.new) TakesAtMostOnePast }
-
-    // A failed read is the one cause of `ReadFault`, and at Ok no read has failed.
-    ensures cause { FailsByFailedRead (seen S.left S.faults source.old source.new) result }
-
-    // Where a read has given no bytes, the source is not asked again.
-    ensures at_end { IsTrue input.new.at_end → IsAtEnd (S.left source.new) }
-    ensures unasked { IsTrue input.old.at_end → source.new ≡ source.old }
-    ensures stays { IsTrue input.old.at_end → IsTrue input.new.at_end }
+    requires { CanRead (S.left source.old) input.old }
+    ensures tells { TellsFiles input.old (seen S.left S.faults source.old source.new)
+        input.new.ahead result }
+    ensures gives { GivesFiles result }
+    ensures draws { Draws S.left S.faults source.old source.new input.old input.new }
+    ensures fares { Fares (seen S.left S.faults source.old source.new) input.new.good result }
 
     // All files were read where a read has given none, whatever the source tells of its bytes.
     ensures ended { OnOk result (IsTrue input.new.at_end) }
-
-    ensures good { StaysGood input.new.good result }
-    ensures limit { input.new.limit ≡ input.old.limit }
 {
     let mut files = Vec::new(alloc);
     'reading: loop {

@@ -1,16 +1,17 @@
 //! The header of a file in a batch: the line that tells how many bytes the file has.
 
-ghost use Rattle.std.specs.Prelude.{◌≡◌, ◌≤◌, ◌<◌, ◌+◌, ℕ, List, IfErr, IfOk, IfNone, IfSome, IsTrue, length, if◌then◌else◌, true};
+ghost use Rattle.std.specs.Prelude.{◌≡◌, ◌≤◌, ◌<◌, ◌+◌, ℕ, List, IfErr, IfOk, length, if◌then◌else◌, true};
 ghost use Rattle.sp_ids.specs.Limits.{max_batch_files, max_batch_file_bytes};
-ghost use Rattle.sp_ports.specs.Bytes.{IsAtEnd};
 ghost use Rattle.sp_ports.specs.Device.{seen};
 ghost use Rattle.mm_defs.specs.Faults.{is_limit};
 ghost use Rattle.mm_defs.specs.Words.{words};
 ghost use Rattle.mm_defs.specs.Calls.{room};
 ghost use Rattle.mm_reader.specs.Fronts.{front};
+ghost use Rattle.mm_reader.specs.Inputs.{Asks, CanRead};
 ghost use Rattle.mm_reader.specs.Lines.{IsLine};
-ghost use Rattle.mm_frames.specs.Batches.{FailsByFailedRead, HasFrameKind, StaysGood, file_bytes, header_rules, is_frame_kind};
-ghost use Rattle.mm_frames.specs.Frames.{AnswersHeader, HeaderIs, IsSameStop, JudgedHeader, UsesSuch};
+ghost use Rattle.mm_frames.specs.Batches.{HasFrameKind, file_bytes, header_rules, is_frame_kind};
+ghost use Rattle.mm_frames.specs.Frames.{HeaderIs, IsSameStop, JudgedHeader};
+ghost use Rattle.mm_frames.specs.Readings.{Fares, GivesHeader, TellsHeader};
 
 use crate::batch::BatchError;
 use mm_defs::{Kind, ReadError};
@@ -104,26 +105,14 @@ pub fn read_header<S: Source>(
     source: &mut S,
     before: usize,
 ) -> Result<Option<FrameHeader>, BatchError>
-    requires good { IsTrue input.old.good }
-    requires at_end { IsTrue input.old.at_end → IsAtEnd (S.left source.old) }
+    requires ready { CanRead (S.left source.old) input.old }
     requires few { before ≤ max_batch_files }
-    ensures answer { UsesSuch (front input.old) (front input.new)
-        (seen S.left S.faults source.old source.new)
-        (AnswersHeader before (front input.new) (seen S.left S.faults source.old source.new)
-        result) }
-    ensures kind { IfErr result HasFrameKind }
-    ensures few { IfOk result (λ header. IfSome header (λ h. before < max_batch_files)) }
-    ensures small { IfOk result (λ header. IfSome header (λ h. h.bytes ≤ max_batch_file_bytes)) }
+    ensures answer { TellsHeader before (front input.old) (front input.new)
+        (seen S.left S.faults source.old source.new) result }
+    ensures gives { GivesHeader before input.new.at_end result }
     ensures most { length input.new.ahead ≤ room input.new + 1 }
-    ensures cause { FailsByFailedRead (seen S.left S.faults source.old source.new) result }
-    ensures at_end { IsTrue input.new.at_end → IsAtEnd (S.left source.new) }
-    ensures unasked { IsTrue input.old.at_end → source.new ≡ source.old }
-    ensures stays { IsTrue input.old.at_end → IsTrue input.new.at_end }
-    ensures none { IfOk result (λ header. IfNone header (IsTrue input.new.at_end)) }
-    ensures last { IfOk result (λ header. IfSome header (λ h. h.last ≡ true
-        → IsTrue input.new.at_end)) }
-    ensures good { StaysGood input.new.good result }
-    ensures limit { input.new.limit ≡ input.old.limit }
+    ensures asks { Asks S.left source.old source.new input.old input.new }
+    ensures fares { Fares (seen S.left S.faults source.old source.new) input.new.good result }
 {
     let mut line = LineSoFar::new();
     let mut begun = false;

@@ -1,15 +1,14 @@
 //! Reading edit lines.
 
-ghost use Rattle.std.specs.Prelude.{◌≡◌, ◌<◌, ◌+◌, ◌^◌, ◌++◌, ℕ, List, Some, length, true, false, IfErr, IfOk, IsTrue, MatchResult, OnOk};
+ghost use Rattle.std.specs.Prelude.{◌≡◌, ◌<◌, ◌+◌, ◌^◌, ℕ, List, length, true, false, IfErr, IfOk, IsTrue, MatchResult, OnOk};
 ghost use Rattle.std.specs.List.{All};
-ghost use Rattle.sp_ports.specs.Bytes.{GivesPrefix, IsAtEnd};
 ghost use Rattle.sp_ports.specs.Device.{seen};
-ghost use Rattle.mm_defs.specs.File.{Fault};
 ghost use Rattle.mm_defs.specs.Words.{lines};
-ghost use Rattle.mm_defs.specs.Calls.{HasItsKind, IsAnswerTo, TakesAtMostOnePast};
-ghost use Rattle.mm_frames.specs.Edits.{HasEditKind, IsWithinMatrix, KeepsGood, ReadsEdits, RefusesEdits, edits_of, first_bad_edit};
+ghost use Rattle.mm_defs.specs.Calls.{HasItsKind};
+ghost use Rattle.mm_frames.specs.Edits.{HasEditKind, IsWithinMatrix, KeepsGood};
+ghost use Rattle.mm_frames.specs.Readings.{GivesEdits, TellsEdits};
 ghost use Rattle.mm_frames.specs.Stages.{AreRead, RefusesLast, StandsAfter, TakesLine};
-ghost use Rattle.mm_reader.specs.Inputs.{FailsByReadFault, OnCall};
+ghost use Rattle.mm_reader.specs.Inputs.{CanRead, Draws, FailsByReadFault};
 ghost use Rattle.mm_reader.specs.Lines.{IsLine};
 
 use crate::edit::Edit;
@@ -91,48 +90,16 @@ pub fn read_edits<S: Source>(
     rows: u32,
     cols: u32,
 ) -> Result<Vec<Edit>, ReadError>
-    requires good { IsTrue input.old.good }
-    requires at_end { IsTrue input.old.at_end → IsAtEnd (S.left source.old) }
-
-    // What each answer says of the bytes.
-    ensures answer { OnCall input.old (seen S.left S.faults source.old source.new) (λ call.
-        MatchResult result (λ v. ReadsEdits input.old.lines rows cols call v.items
-        (input.new.ahead ++ call.after)) (RefusesEdits input.old.lines rows cols call)) }
-
-    // A bad line is answered, and the first one.
-    ensures bad { OnCall input.old (seen S.left S.faults source.old source.new)
-        (λ call. (fault : Fault) →
-        first_bad_edit input.old.lines rows cols call ≡ Some fault → IsAnswerTo fault result) }
-
-    // `Limit` tells what passes a limit, and `Malformed` what does not: a kind of edit lines.
-    ensures kind { HasItsKind result }
-    ensures family { IfErr result HasEditKind }
-
-    // The edits are what some lines say, also where the source does not tell its bytes.
-    ensures said { IfOk result
-        (λ v. (bytes : List ℕ) × (v.items ≡ edits_of input.old.lines (lines true bytes))) }
-
-    // All places are in the matrix.
-    ensures within { IfOk result (λ v. All (IsWithinMatrix rows cols) v.items) }
-
-    // What is left is the end of what there was. At most one byte was taken past the limit.
-    ensures gave { GivesPrefix (S.left source.old) (S.left source.new) }
-    ensures most { OnCall input.old
-        (seen S.left S.faults source.old source.new) TakesAtMostOnePast }
-
-    // A failed read is the one cause of `ReadFault`, and at Ok no read has failed.
+    requires { CanRead (S.left source.old) input.old }
+    ensures tells { TellsEdits rows cols input.old (seen S.left S.faults source.old source.new)
+        input.new.ahead result }
+    ensures gives { GivesEdits rows cols input.old.lines result }
+    ensures draws { Draws S.left S.faults source.old source.new input.old input.new }
     ensures cause { FailsByReadFault (seen S.left S.faults source.old source.new) result }
-
-    // Where a read has given no bytes, the source is not asked again.
-    ensures at_end { IsTrue input.new.at_end → IsAtEnd (S.left source.new) }
-    ensures unasked { IsTrue input.old.at_end → source.new ≡ source.old }
-    ensures stays { IsTrue input.old.at_end → IsTrue input.new.at_end }
+    ensures good { KeepsGood input.new.good result }
 
     // All lines were read where a read has given none, whatever the source tells of its bytes.
     ensures ended { OnOk result (IsTrue input.new.at_end) }
-
-    ensures good { KeepsGood input.new.good result }
-    ensures limit { input.new.limit ≡ input.old.limit }
 {
     let mut edits = Vec::new(alloc);
     let mut line = LineSoFar::new();

@@ -8,6 +8,7 @@ pub mod EntryLimits
 pub mod Exits
 pub mod FrontLaws
 pub mod Judges
+pub mod Leaving
 pub mod LineSteps
 pub mod Lookups
 pub mod Masks

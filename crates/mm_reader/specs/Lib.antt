@@ -9,6 +9,7 @@ pub mod Lines
 pub mod Machine
 pub mod Places
 pub mod Plain
+pub mod Readings
 pub mod Stages
 pub mod Tokens
 pub mod Windows

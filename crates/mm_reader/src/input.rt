@@ -8,7 +8,7 @@ ghost use Rattle.sp_ports.specs.Device.{seen};
 ghost use Rattle.mm_defs.specs.Words.{is_lf};
 ghost use Rattle.mm_reader.specs.EntryLimits.{AreWithinLimits};
 ghost use Rattle.mm_reader.specs.Fronts.{front, Advances, Stops};
-ghost use Rattle.mm_reader.specs.Inputs.{FailsByReadFault, OnCall};
+ghost use Rattle.mm_reader.specs.Inputs.{Asks, CanRead, Counts, Draws, EndsBy, FailsByReadFault, Fares, OnCall, Tells};
 ghost use Rattle.mm_defs.specs.File.{Fault};
 ghost use Rattle.mm_defs.specs.Calls.{room, first_bad, FellShort, HasItsKind, IsAnswer, IsNear, IsRest, JudgesNoLine, LacksLf, RefusesRest, TakesAtMostOnePast, IsAnswerTo};
 
@@ -115,63 +115,16 @@ pub fn read_matrix<S: Source>(
     source: &mut S,
     end: End,
 ) -> Result<Triples, ReadError>
-    requires good { IsTrue input.old.good }
-    requires at_end { IsTrue input.old.at_end → IsAtEnd (S.left source.old) }
-
-    // What each answer says of the bytes.
-    ensures answer { OnCall input.old (seen S.left S.faults source.old source.new) (λ call.
-        IsAnswer end call (input.new.ahead ++ call.after) result) }
-
-    // A bad line is answered, and the first one.
-    ensures bad { OnCall input.old (seen S.left S.faults source.old source.new)
-        (λ call. (fault : Fault) →
-        first_bad end call ≡ Some fault → IsAnswerTo fault result) }
-    ensures near { OnCall input.old (seen S.left S.faults source.old source.new) (λ call.
-        IsNear call result) }
-
-    // `Limit` tells what passes a limit, and `Malformed` what does not.
+    requires { CanRead (S.left source.old) input.old }
+    ensures tells { Tells end input.old (seen S.left S.faults source.old source.new)
+        input.new.ahead result }
     ensures kind { HasItsKind result }
-
-    // What was read is within the limits, whatever the source tells of its bytes.
     ensures within { IfOk result AreWithinLimits }
-
-    // Where the bytes given did not do, a matrix that ends with its last entry line had not ended
-    // in them.
-    ensures short { OnCall input.old (seen S.left S.faults source.old source.new) (λ call.
-        FellShort end call result) }
-
-    // What is left is the end of what there was. At most one byte was taken past the limit, and at
-    // `TooLong` it was.
-    ensures gave { GivesPrefix (S.left source.old) (S.left source.new) }
-    ensures most { OnCall input.old
-        (seen S.left S.faults source.old source.new) TakesAtMostOnePast }
-    ensures most_taken { input.new.taken ≤ input.new.limit + 1 }
-    ensures past { IsErrOf result ReadError.TooLong → input.new.taken ≡ input.new.limit + 1 }
-
-    // A failed read is the one cause of `ReadFault`, and at Ok no read has failed.
-    ensures cause { FailsByReadFault (seen S.left S.faults source.old source.new) result }
-
-    // Where a read has given no bytes, the source is not asked again.
-    ensures at_end { IsTrue input.new.at_end → IsAtEnd (S.left source.new) }
-    ensures unasked { IsTrue input.old.at_end → source.new ≡ source.old }
-    ensures stays { IsTrue input.old.at_end → IsTrue input.new.at_end }
-
-    // A read has given none where the file was read to its end, and where the last line used has no
-    // LF.
-    ensures ended { OnOk result (end ≡ End.File → IsTrue input.new.at_end) }
-    ensures last_line { OnOk result
-        (WhereKnown (S.left source.old) (S.left source.new) (λ before after.
-        LacksLf (input.old.ahead ++ before) (input.new.ahead ++ after) → IsTrue input.new.at_end)) }
-
-    // Whatever the answer is, the LFs of what was used were counted, and the bytes that were taken.
-    ensures lines { WhereKnown (S.left source.old) (S.left source.new) (λ before after.
-        input.new.lines + count_by is_lf (input.new.ahead ++ after)
-        ≡ input.old.lines + count_by is_lf (input.old.ahead ++ before)) }
-    ensures taken { WhereKnown (S.left source.old) (S.left source.new) (λ before after.
-        input.new.taken + length after ≡ input.old.taken + length before) }
-
-    ensures good { IsTrue input.new.good ↔ IsOk result }
-    ensures limit { input.new.limit ≡ input.old.limit }
+    ensures draws { Draws S.left S.faults source.old source.new input.old input.new }
+    ensures counts { Counts (S.left source.old) (S.left source.new) input.old input.new }
+    ensures fares { Fares (seen S.left S.faults source.old source.new) input.new result }
+    ensures ends { OnOk result
+        (EndsBy end (S.left source.old) (S.left source.new) input.old input.new) }
 {
     match matrix(alloc, &mut input.window, source, end) {
         Err(error) => {
@@ -193,45 +146,15 @@ pub fn read_rest<S: Source>(
     input: &mut Input,
     source: &mut S,
 ) -> Result<Vec<u8>, ReadError>
-    requires good { IsTrue input.old.good }
-    requires at_end { IsTrue input.old.at_end → IsAtEnd (S.left source.old) }
-
-    // What each answer says of the bytes.
+    requires { CanRead (S.left source.old) input.old }
     ensures answer { OnCall input.old (seen S.left S.faults source.old source.new) (λ call.
         MatchResult result (λ v. IsRest call (input.new.ahead ++ call.after) v.items)
         (RefusesRest call)) }
-
-    // No line is judged.
     ensures unjudged { IfErr result JudgesNoLine }
-
-    // What is left is the end of what there was. At most one byte was taken past the limit, and at
-    // `TooLong` it was.
-    ensures gave { GivesPrefix (S.left source.old) (S.left source.new) }
-    ensures most { OnCall input.old
-        (seen S.left S.faults source.old source.new) TakesAtMostOnePast }
-    ensures most_taken { input.new.taken ≤ input.new.limit + 1 }
-    ensures past { IsErrOf result ReadError.TooLong → input.new.taken ≡ input.new.limit + 1 }
-
-    // A failed read is the one cause of `ReadFault`, and at Ok no read has failed.
-    ensures cause { FailsByReadFault (seen S.left S.faults source.old source.new) result }
-
-    // Where a read has given no bytes, the source is not asked again.
-    ensures at_end { IsTrue input.new.at_end → IsAtEnd (S.left source.new) }
-    ensures unasked { IsTrue input.old.at_end → source.new ≡ source.old }
-    ensures stays { IsTrue input.old.at_end → IsTrue input.new.at_end }
-
-    // All that follows was read where a read has given none.
+    ensures draws { Draws S.left S.faults source.old source.new input.old input.new }
+    ensures counts { Counts (S.left source.old) (S.left source.new) input.old input.new }
+    ensures fares { Fares (seen S.left S.faults source.old source.new) input.new result }
     ensures ended { OnOk result (IsTrue input.new.at_end) }
-
-    // Whatever the answer is, the LFs of what was used were counted, and the bytes that were taken.
-    ensures lines { WhereKnown (S.left source.old) (S.left source.new) (λ before after.
-        input.new.lines + count_by is_lf (input.new.ahead ++ after)
-        ≡ input.old.lines + count_by is_lf (input.old.ahead ++ before)) }
-    ensures taken { WhereKnown (S.left source.old) (S.left source.new) (λ before after.
-        input.new.taken + length after ≡ input.old.taken + length before) }
-
-    ensures good { IsTrue input.new.good ↔ IsOk result }
-    ensures limit { input.new.limit ≡ input.old.limit }
 {
     match rest(alloc, &mut input.window, source) {
         Err(error) => {
@@ -249,8 +172,7 @@ pub fn read_rest<S: Source>(
 /// come, `ReadFault` where none is ahead and a read failed, and no other error. After an `Err` the
 /// input is not good.
 pub fn next_byte<S: Source>(input: &mut Input, source: &mut S) -> Result<Option<u8>, ReadError>
-    requires good { IsTrue input.old.good }
-    requires at_end { IsTrue input.old.at_end → IsAtEnd (S.left source.old) }
+    requires { CanRead (S.left source.old) input.old }
 
     // The byte is the first of those ahead and those that the source gave, or there is none any
     // more.
@@ -266,9 +188,7 @@ pub fn next_byte<S: Source>(input: &mut Input, source: &mut S) -> Result<Option<
     ensures cause { FailsByReadFault (seen S.left S.faults source.old source.new) result }
 
     // Where a read has given no bytes, the source is not asked again.
-    ensures at_end { IsTrue input.new.at_end → IsAtEnd (S.left source.new) }
-    ensures unasked { IsTrue input.old.at_end → source.new ≡ source.old }
-    ensures stays { IsTrue input.old.at_end → IsTrue input.new.at_end }
+    ensures asks { Asks S.left source.old source.new input.old input.new }
 
     // Of the bytes ahead at most one is past what may be used.
     ensures most { length input.new.ahead ≤ room input.new + 1 }
@@ -277,7 +197,6 @@ pub fn next_byte<S: Source>(input: &mut Input, source: &mut S) -> Result<Option<
     ensures fits { input.old.lines + room input.old < 2 ^ 64 }
 
     ensures good { IsTrue input.new.good ↔ IsOk result }
-    ensures limit { input.new.limit ≡ input.old.limit }
 {
     match next(&mut input.window, source) {
         Err(error) => {

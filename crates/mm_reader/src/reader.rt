@@ -2,16 +2,16 @@
 
 ghost use Rattle.std.specs.Prelude.{◌≡◌, ◌<◌, ◌+◌, ◌++◌, ◌^◌, if◌then◌else◌, ℕ, List, false, IfOk, IfErr, MatchResult, OnOk, IsTrue, []};
 ghost use Rattle.std.specs.Result.{IsErrOf};
-ghost use Rattle.sp_ports.specs.Bytes.{GivesPrefix, IsAtEnd, WhereKnown};
+ghost use Rattle.sp_ports.specs.Bytes.{IsAtEnd};
 ghost use Rattle.sp_ports.specs.Device.{seen};
 ghost use Rattle.mm_defs.specs.Faults.{is_limit};
 ghost use Rattle.mm_defs.specs.File.{Reads};
-ghost use Rattle.mm_defs.specs.Calls.{HasItsKind, LacksLf, TakesAtMostOnePast};
+ghost use Rattle.mm_defs.specs.Calls.{HasItsKind};
 ghost use Rattle.mm_reader.specs.EntryLimits.{AreWithinLimits};
-ghost use Rattle.mm_reader.specs.Inputs.{FailsByReadFault};
 ghost use Rattle.mm_reader.specs.Machine.{IsReady, is_complete};
+ghost use Rattle.mm_reader.specs.Readings.{EndsFor, HasCause, Leaves};
 ghost use Rattle.mm_reader.specs.Stages.{begun_lines, IsAfter, StandsSomewhere};
-ghost use Rattle.mm_reader.specs.Windows.{ahead_of, OnCallOf, Answers, HasCounted, IsInRoom, IsOnePast, IsWindow, KeepsWindow, Consumes, Refuses, RefusesAtEnd, refusal_of, UsesSome};
+ghost use Rattle.mm_reader.specs.Windows.{ahead_of, OnCallOf, Answers, IsInRoom, IsOnePast, IsWindow, Consumes, Refuses, RefusesAtEnd, refusal_of, UsesSome};
 
 use crate::machine::{Machine, Stop, feed, finish, is_complete, start};
 use crate::window::{Window, advance, refill};
@@ -110,23 +110,10 @@ pub fn matrix<S: Source>(
         Answers end call window.new result) }
     ensures kind { HasItsKind result }
     ensures within { IfOk result AreWithinLimits }
-    ensures gave { GivesPrefix (S.left source.old) (S.left source.new) }
-    ensures most { OnCallOf window.old
-        (seen S.left S.faults source.old source.new) TakesAtMostOnePast }
-    ensures cause { FailsByReadFault (seen S.left S.faults source.old source.new) result }
-    ensures counted { WhereKnown (S.left source.old) (S.left source.new)
-        (λ before after. HasCounted window.old window.new before after) }
-    ensures past { IsErrOf result ReadError.TooLong → IsOnePast window.new }
-    ensures window { KeepsWindow window.old window.new }
-    ensures in_room { OnOk result (IsInRoom window.new) }
-    ensures at_end { IsTrue window.new.at_end → IsAtEnd (S.left source.new) }
-    ensures unasked { IsTrue window.old.at_end → source.new ≡ source.old }
-    ensures stays { IsTrue window.old.at_end → IsTrue window.new.at_end }
-    ensures ended { OnOk result (end ≡ End.File → IsTrue window.new.at_end) }
-    ensures last_line { OnOk result
-        (WhereKnown (S.left source.old) (S.left source.new) (λ before after.
-        LacksLf (ahead_of window.old ++ before) (ahead_of window.new ++ after)
-        → IsTrue window.new.at_end)) }
+    ensures leaves { Leaves S.left S.faults source.old source.new window.old window.new }
+    ensures cause { HasCause (seen S.left S.faults source.old source.new) window.new result }
+    ensures ends { OnOk result
+        (EndsFor end (S.left source.old) (S.left source.new) window.old window.new) }
 {
     let mut m = match start(alloc) {
         Err(_) => return Err(ReadError::OutOfMemory),

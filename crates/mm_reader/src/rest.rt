@@ -2,13 +2,12 @@
 
 ghost use Rattle.std.specs.Prelude.{◌≡◌, ◌++◌, IfErr, MatchResult, OnErr, OnOk, IsTrue};
 ghost use Rattle.std.specs.List.{count_by};
-ghost use Rattle.std.specs.Result.{IsErrOf};
-ghost use Rattle.sp_ports.specs.Bytes.{GivesPrefix, IsAtEnd, WhereKnown};
+ghost use Rattle.sp_ports.specs.Bytes.{IsAtEnd};
 ghost use Rattle.sp_ports.specs.Device.{seen};
 ghost use Rattle.mm_defs.specs.Words.{is_lf};
-ghost use Rattle.mm_defs.specs.Calls.{IsRest, JudgesNoLine, RefusesRest, TakesAtMostOnePast};
-ghost use Rattle.mm_reader.specs.Inputs.{FailsByReadFault};
-ghost use Rattle.mm_reader.specs.Windows.{ahead_of, OnCallOf, HasCounted, IsInRoom, IsOnePast, IsWindow, KeepsWindow, TakesAhead, RefusesAhead};
+ghost use Rattle.mm_defs.specs.Calls.{IsRest, JudgesNoLine, RefusesRest};
+ghost use Rattle.mm_reader.specs.Readings.{HasCause, Leaves};
+ghost use Rattle.mm_reader.specs.Windows.{ahead_of, OnCallOf, IsInRoom, IsWindow, KeepsWindow, TakesAhead, RefusesAhead};
 
 use crate::window::{Window, refill};
 use mm_defs::ReadError;
@@ -59,18 +58,8 @@ pub fn rest<S: Source>(
         MatchResult result (λ v. IsRest call (ahead_of window.new ++ call.after) v.items)
         (RefusesRest call)) }
     ensures unjudged { IfErr result JudgesNoLine }
-    ensures gave { GivesPrefix (S.left source.old) (S.left source.new) }
-    ensures most { OnCallOf window.old
-        (seen S.left S.faults source.old source.new) TakesAtMostOnePast }
-    ensures cause { FailsByReadFault (seen S.left S.faults source.old source.new) result }
-    ensures counted { WhereKnown (S.left source.old) (S.left source.new)
-        (λ before after. HasCounted window.old window.new before after) }
-    ensures past { IsErrOf result ReadError.TooLong → IsOnePast window.new }
-    ensures window { KeepsWindow window.old window.new }
-    ensures in_room { OnOk result (IsInRoom window.new) }
-    ensures at_end { IsTrue window.new.at_end → IsAtEnd (S.left source.new) }
-    ensures unasked { IsTrue window.old.at_end → source.new ≡ source.old }
-    ensures stays { IsTrue window.old.at_end → IsTrue window.new.at_end }
+    ensures leaves { Leaves S.left S.faults source.old source.new window.old window.new }
+    ensures cause { HasCause (seen S.left S.faults source.old source.new) window.new result }
     ensures ended { OnOk result (IsTrue window.new.at_end) }
 {
     let mut bytes = Vec::new(alloc);

@@ -9,7 +9,7 @@ use Rattle.btf_tool.proofs.file_answer.answer_bytes.Goals as goal
 pub returns-in-Ok : goal.returns-in-Ok
 returns-in-Ok g c =
     IfOk-weaker c.analysed.result _ _ (λ answer is. is c.args.bytes.now
-    (lent_read c.in_ok-input.input c.args.bytes.now c.new-source.result c.read_matrix.new.source _ c.in-Ok.triples (ap (λ (i : Intake). i.ahead) c.in_ok-input.ensures) c.new-source.ensures c.in-Ok.ensures.answer))
+    (lent_read c.in_ok-input.input c.args.bytes.now c.new-source.result c.read_matrix.new.source _ c.in-Ok.triples (ap (λ (i : Intake). i.ahead) c.in_ok-input.ensures) c.new-source.ensures c.in-Ok.ensures.tells.answer))
     c.analysed.ensures
 
 same_fault : {bytes : List ℕ} {limit : Bool} {line told : ℕ} {kind known : Kind} → line ≡ told → kind ≡ known → IsFaulty bytes limit told known → IsFaulty bytes limit line kind
@@ -20,10 +20,10 @@ pub returns-in-Err-Malformed : goal.returns-in-Err-Malformed
 returns-in-Err-Malformed g c =
     same_fault c.in-Err-Malformed.line-is c.in-Err-Malformed.kind-is
     (lent_malformed c.in_ok-input.input c.args.bytes.now c.new-source.result c.read_matrix.new.source (c.read_matrix.new.input.ahead ++ c.read_matrix.new.source) c.in-Err-Malformed.field-0 c.in-Err-Malformed.line c.in-Err-Malformed.kind
-    (ap (λ (i : Intake). i.ahead) c.in_ok-input.ensures) c.new-source.ensures c.in-Err-Malformed.field-0-is c.in-Err-Malformed.ensures.answer)
+    (ap (λ (i : Intake). i.ahead) c.in_ok-input.ensures) c.new-source.ensures c.in-Err-Malformed.field-0-is c.in-Err-Malformed.ensures.tells.answer)
 
 pub returns-in-Err-Limit : goal.returns-in-Err-Limit
 returns-in-Err-Limit g c =
     same_fault c.in-Err-Limit.line-is c.in-Err-Limit.kind-is
     (lent_limit c.in_ok-input.input c.args.bytes.now c.new-source.result c.read_matrix.new.source (c.read_matrix.new.input.ahead ++ c.read_matrix.new.source) c.in-Err-Limit.field-0 c.in-Err-Limit.line c.in-Err-Limit.kind
-    (ap (λ (i : Intake). i.ahead) c.in_ok-input.ensures) c.new-source.ensures c.in-Err-Limit.field-0-is c.in-Err-Limit.ensures.answer)
+    (ap (λ (i : Intake). i.ahead) c.in_ok-input.ensures) c.new-source.ensures c.in-Err-Limit.field-0-is c.in-Err-Limit.ensures.tells.answer)

@@ -1,7 +1,7 @@
 use Rattle.std.proofs.Common.{[], ◌∷◌, ◌++◌, refl, ◌∙◌, arith, length-append}
 use Rattle.mm_reader.specs.Fronts.{front}
 use Rattle.mm_frames.proofs.StepLaws.{file_short, file_stopped}
-use Rattle.mm_frames.proofs.UsedLaws.{one_more}
+use Rattle.mm_frames.proofs.UsedLaws.{asks_then, one_more}
 use Rattle.mm_frames.proofs.files.read_file.Goals as goal
 
 pub returns-in-Err-clause-answer : goal.returns-in-Err-clause-answer
@@ -46,8 +46,6 @@ loop-input-preserved g c =
       fits = rw e (omega (arith, n, c.loop-input-test.true, c.len.ensures, c.loop-input.file.ok.0));
       most = b.ensures.most;
       steady = b.ensures.cause.steady ∙ i.steady;
-      good = b.ensures.good.1 refl;
-      limit = b.ensures.limit ∙ i.limit;
-      at_end = b.ensures.at_end;
-      unasked = λ t. let e = i.unasked t in (b.ensures.stays e.0, b.ensures.unasked e.0 ∙ e.1);
+      can = record { good = b.ensures.good.1 refl; at_end = b.ensures.asks.at_end };
+      asks = asks_then i.asks b.ensures.asks;
     }

@@ -1,7 +1,7 @@
-use Rattle.std.proofs.Common.{◌≡◌, ◌≤◌, ◌+◌, ◌-◌, length, true, IsTrue}
-use Rattle.sp_ports.specs.Bytes.{IsAtEnd}
+use Rattle.std.proofs.Common.{◌≡◌, ◌≤◌, ◌+◌, ◌-◌, length}
 use Rattle.mm_defs.specs.Calls.{room}
 use Rattle.mm_reader.specs.Fronts.{front}
+use Rattle.mm_reader.specs.Inputs.{Asks, CanRead}
 use Rattle.mm_frames.specs.Stages.{HasUsed}
 use Rattle.mm_frames.proofs.files.read_file.Given as goal
 
@@ -11,10 +11,8 @@ invariant-loop-input g l = record {
   fits : length l.file.items ≤ l.bytes;
   most : length l.input.ahead ≤ room l.input + 1;
   steady : g.S.Source.faults l.source ≡ g.S.Source.faults l.fn.source;
-  good : l.input.good ≡ true;
-  limit : l.input.limit ≡ l.fn.input.limit;
-  at_end : IsTrue l.input.at_end → IsAtEnd (g.S.Source.left l.source);
-  unasked : IsTrue l.fn.input.at_end → IsTrue l.input.at_end × (l.source ≡ l.fn.source);
+  can : CanRead (g.S.Source.left l.source) l.input;
+  asks : Asks g.S.Source.left l.fn.source l.source l.fn.input l.input;
 }
 
 abbrev pub decreases-loop-input : goal.decreases-loop-input

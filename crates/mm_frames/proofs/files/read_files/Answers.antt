@@ -1,15 +1,14 @@
-use Rattle.std.proofs.Common.{◌≡◌, ◌≤◌, ℕ, [], ◌∷◌, length, Ok, refl, ap, ◌∙◌, arith}
+use Rattle.std.proofs.Common.{◌≡◌, ◌≤◌, ℕ, [], ◌∷◌, length, refl, ap, ◌∙◌, arith}
 use Rattle.std.specs.Global.{Vec}
 use Rattle.std.specs.Vec.{vec_len}
 use Rattle.std.proofs.lemmas.List.{length-map, map-append}
 use Rattle.std.proofs.lemmas.List.Elements.{All-push}
 use Rattle.std.proofs.lemmas.Result.{err_from_is_err_and}
 use Rattle.sp_ids.specs.Limits.{max_batch_file_bytes}
-use Rattle.sp_ports.specs.Device.{seen}
 use Rattle.mm_reader.specs.Fronts.{front}
 use Rattle.mm_frames.specs.Batches.{files_of}
-use Rattle.mm_frames.proofs.BatchLaws.{bad_frame_on_call}
-use Rattle.mm_frames.proofs.UsedLaws.{most_known}
+use Rattle.mm_frames.proofs.BatchLaws.{files_told}
+use Rattle.mm_frames.proofs.UsedLaws.{asks_none, asks_then, most_known}
 use Rattle.mm_frames.proofs.WholeLaws.{end_answered, file_answered, file_used, files_none, header_answered, header_used, last_answered, less_room, one_file_more}
 use Rattle.mm_frames.proofs.files.read_files.Goals as goal
 
@@ -24,149 +23,106 @@ reading-init g c =
       files = rw e (files_none (front c.args.input.now) (g.S.Source.left c.args.source.now));
       small = λ k d low. absurd (omega arith);
       steady = refl;
-      good = c.requires.good;
-      limit = refl;
-      at_end = c.requires.at_end;
-      unasked = λ t. (t, refl);
+      can = c.requires;
+      asks = asks_none c.requires;
     }
 
-pub returns-in_err-read_header-clause-answer : goal.returns-in_err-read_header-clause-answer
-returns-in_err-read_header-clause-answer g c =
+pub returns-in_err-read_header-clause-tells : goal.returns-in_err-read_header-clause-tells
+returns-in_err-read_header-clause-tells g c =
     let i = c.reading.invariant in
     let q = err_from_is_err_and c.from_residual.result c.from_residual.ensures.1 in
     rw (q.1, q.2)
-    (header_answered _ _ _ _ _ _ _ _ _ i.steady _ i.files _ (count c.reading.files _ c.len-before.ensures)
-    c.in_err-read_header.field-0.0 c.in_err-read_header.ensures.answer)
+    (files_told _ _ _ _ (header_answered _ _ _ _ _ _ _ _ _ i.steady _ i.files _ (count c.reading.files _ c.len-before.ensures)
+    c.in_err-read_header.field-0.0 c.in_err-read_header.ensures.answer))
 
-pub returns-in_err-read_header-clause-gave : goal.returns-in_err-read_header-clause-gave
-returns-in_err-read_header-clause-gave g c =
+pub returns-in_err-read_header-clause-draws : goal.returns-in_err-read_header-clause-draws
+returns-in_err-read_header-clause-draws g c =
     let i = c.reading.invariant in
     let u = c.in_err-read_header.ensures.answer in
     let k = header_used _ _ _ _ _ _ _ _ (g.S.Source.faults c.read_header.new.source) i.steady _ i.files _ (count c.reading.files _ c.len-before.ensures) u.used u.so_far in
-    (k.gave, k.given)
+    record {
+      gave = (k.gave, k.given);
+      most = most_known _ _ _ _ _ k (g.S.Source.faults c.args.source.now) (g.S.Source.faults c.read_header.new.source) c.in_err-read_header.ensures.most;
+      asks = asks_then i.asks c.in_err-read_header.ensures.asks;
+    }
 
-pub returns-in_err-read_header-clause-most : goal.returns-in_err-read_header-clause-most
-returns-in_err-read_header-clause-most g c =
-    let i = c.reading.invariant in
-    let u = c.in_err-read_header.ensures.answer in
-    let k = header_used _ _ _ _ _ _ _ _ (g.S.Source.faults c.read_header.new.source) i.steady _ i.files _ (count c.reading.files _ c.len-before.ensures) u.used u.so_far in
-    most_known _ _ _ _ _ k (g.S.Source.faults c.args.source.now) (g.S.Source.faults c.read_header.new.source) c.in_err-read_header.ensures.most
-
-pub returns-in-None-clause-answer : goal.returns-in-None-clause-answer
-returns-in-None-clause-answer g c =
+pub returns-in-None-clause-tells : goal.returns-in-None-clause-tells
+returns-in-None-clause-tells g c =
     let i = c.reading.invariant in
     let u = rw c.in-None.is at c.in_ok-read_header.ensures.answer in
-    end_answered _ _ _ _ _ _ _ _ _ i.steady _ i.files _ (count c.reading.files _ c.len-before.ensures) u
+    files_told _ _ _ _ (end_answered _ _ _ _ _ _ _ _ _ i.steady _ i.files _ (count c.reading.files _ c.len-before.ensures) u)
 
-pub returns-then-header-clause-answer : goal.returns-then-header-clause-answer
-returns-then-header-clause-answer g c =
+pub returns-then-header-clause-tells : goal.returns-then-header-clause-tells
+returns-then-header-clause-tells g c =
     let i = c.reading.invariant in
     let u = rw c.in-Some.is at c.in_ok-read_header.ensures.answer in
-    last_answered _ _ _ _ _ _ _ _ _ i.steady _ i.files _ (count c.reading.files _ c.len-before.ensures) c.in-Some.header u c.if-header.true c.end_with.result c.end_with.ensures.answer
+    files_told _ _ _ _ (last_answered _ _ _ _ _ _ _ _ _ i.steady _ i.files _ (count c.reading.files _ c.len-before.ensures) c.in-Some.header u c.if-header.true c.end_with.result c.end_with.ensures.answer)
 
-pub returns-then-header-clause-gave : goal.returns-then-header-clause-gave
-returns-then-header-clause-gave g c =
+pub returns-then-header-clause-draws : goal.returns-then-header-clause-draws
+returns-then-header-clause-draws g c =
     let i = c.reading.invariant in
     let u = c.in_ok-read_header.ensures.answer in
     let k = header_used _ _ _ _ _ _ _ _ (g.S.Source.faults c.read_header.new.source) i.steady _ i.files _ (count c.reading.files _ c.len-before.ensures) u.used u.so_far in
-    (k.gave, k.given)
+    record {
+      gave = (k.gave, k.given);
+      most = most_known _ _ _ _ _ k (g.S.Source.faults c.args.source.now) (g.S.Source.faults c.read_header.new.source) c.in_ok-read_header.ensures.most;
+      asks = asks_then i.asks c.in_ok-read_header.ensures.asks;
+    }
 
-pub returns-then-header-clause-most : goal.returns-then-header-clause-most
-returns-then-header-clause-most g c =
-    let i = c.reading.invariant in
-    let u = c.in_ok-read_header.ensures.answer in
-    let k = header_used _ _ _ _ _ _ _ _ (g.S.Source.faults c.read_header.new.source) i.steady _ i.files _ (count c.reading.files _ c.len-before.ensures) u.used u.so_far in
-    most_known _ _ _ _ _ k (g.S.Source.faults c.args.source.now) (g.S.Source.faults c.read_header.new.source) c.in_ok-read_header.ensures.most
-
-pub returns-in_err-file-clause-answer : goal.returns-in_err-file-clause-answer
-returns-in_err-file-clause-answer g c =
+pub returns-in_err-file-clause-tells : goal.returns-in_err-file-clause-tells
+returns-in_err-file-clause-tells g c =
     let i = c.reading.invariant in
     let u = rw c.in-Some.is at c.in_ok-read_header.ensures.answer in
     let q = err_from_is_err_and c.from_residual-in_err-file.result c.from_residual-in_err-file.ensures.1 in
     rw (q.1, q.2)
-    (file_answered _ _ _ _ _ _ _ _ _ i.steady _ i.files _ (count c.reading.files _ c.len-before.ensures) c.in-Some.header u c.if-header.false
-    c.in_ok-read_header.ensures.cause.steady _ _ _ c.in_err-file.field-0.0 (c.in_err-file.ensures.answer u.such.line u.such.good))
+    (files_told _ _ _ _ (file_answered _ _ _ _ _ _ _ _ _ i.steady _ i.files _ (count c.reading.files _ c.len-before.ensures) c.in-Some.header u c.if-header.false
+    c.in_ok-read_header.ensures.fares.cause.steady _ _ _ c.in_err-file.field-0.0 (c.in_err-file.ensures.answer u.such.line u.such.good)))
 
-pub returns-in_err-file-clause-gave : goal.returns-in_err-file-clause-gave
-returns-in_err-file-clause-gave g c =
+pub returns-in_err-file-clause-draws : goal.returns-in_err-file-clause-draws
+returns-in_err-file-clause-draws g c =
     let i = c.reading.invariant in
     let u = rw c.in-Some.is at c.in_ok-read_header.ensures.answer in
     let v = c.in_err-file.ensures.answer u.such.line u.such.good in
     let k = file_used _ _ _ _ _ _ _ _ _ i.steady _ i.files _ (count c.reading.files _ c.len-before.ensures) c.in-Some.header u c.if-header.false
-    c.in_ok-read_header.ensures.cause.steady _ _ (g.S.Source.faults c.read_file.new.source) v.used v.so_far in
-    (k.gave, k.given)
+    c.in_ok-read_header.ensures.fares.cause.steady _ _ (g.S.Source.faults c.read_file.new.source) v.used v.so_far in
+    record {
+      gave = (k.gave, k.given);
+      most = most_known _ _ _ _ _ k (g.S.Source.faults c.args.source.now) (g.S.Source.faults c.read_file.new.source) c.in_err-file.ensures.most;
+      asks = asks_then i.asks (asks_then c.in_ok-read_header.ensures.asks c.in_err-file.ensures.asks);
+    }
 
-pub returns-in_err-file-clause-most : goal.returns-in_err-file-clause-most
-returns-in_err-file-clause-most g c =
-    let i = c.reading.invariant in
-    let u = rw c.in-Some.is at c.in_ok-read_header.ensures.answer in
-    let v = c.in_err-file.ensures.answer u.such.line u.such.good in
-    let k = file_used _ _ _ _ _ _ _ _ _ i.steady _ i.files _ (count c.reading.files _ c.len-before.ensures) c.in-Some.header u c.if-header.false
-    c.in_ok-read_header.ensures.cause.steady _ _ (g.S.Source.faults c.read_file.new.source) v.used v.so_far in
-    most_known _ _ _ _ _ k (g.S.Source.faults c.args.source.now) (g.S.Source.faults c.read_file.new.source) c.in_err-file.ensures.most
-
-pub returns-in-Err-clause-gave : goal.returns-in-Err-clause-gave
-returns-in-Err-clause-gave g c =
+pub returns-in-Err-clause-draws : goal.returns-in-Err-clause-draws
+returns-in-Err-clause-draws g c =
     let i = c.reading.invariant in
     let u = rw c.in-Some.is at c.in_ok-read_header.ensures.answer in
     let v = c.in_ok-file.ensures.answer u.such.line u.such.good in
     let k = file_used _ _ _ _ _ _ _ _ _ i.steady _ i.files _ (count c.reading.files _ c.len-before.ensures) c.in-Some.header u c.if-header.false
-    c.in_ok-read_header.ensures.cause.steady _ _ (g.S.Source.faults c.read_file.new.source) v.used v.so_far in
-    (k.gave, k.given)
-
-pub returns-in-Err-clause-most : goal.returns-in-Err-clause-most
-returns-in-Err-clause-most g c =
-    let i = c.reading.invariant in
-    let u = rw c.in-Some.is at c.in_ok-read_header.ensures.answer in
-    let v = c.in_ok-file.ensures.answer u.such.line u.such.good in
-    let k = file_used _ _ _ _ _ _ _ _ _ i.steady _ i.files _ (count c.reading.files _ c.len-before.ensures) c.in-Some.header u c.if-header.false
-    c.in_ok-read_header.ensures.cause.steady _ _ (g.S.Source.faults c.read_file.new.source) v.used v.so_far in
-    most_known _ _ _ _ _ k (g.S.Source.faults c.args.source.now) (g.S.Source.faults c.read_file.new.source) c.in_ok-file.ensures.most
+    c.in_ok-read_header.ensures.fares.cause.steady _ _ (g.S.Source.faults c.read_file.new.source) v.used v.so_far in
+    record {
+      gave = (k.gave, k.given);
+      most = most_known _ _ _ _ _ k (g.S.Source.faults c.args.source.now) (g.S.Source.faults c.read_file.new.source) c.in_ok-file.ensures.most;
+      asks = asks_then i.asks (asks_then c.in_ok-read_header.ensures.asks c.in_ok-file.ensures.asks);
+    }
 
 pub reading-smaller : goal.reading-smaller
 reading-smaller g c =
     let i = c.reading.invariant in
     let u = rw c.in-Some.is at c.in_ok-read_header.ensures.answer in
     less_room _ _ _ _ _ _ _ _ _ i.steady _ i.files _ (count c.reading.files _ c.len-before.ensures) c.in-Some.header u c.if-header.false
-    c.in_ok-read_header.ensures.cause.steady _ _ _ c.in_ok-file.file (c.in_ok-file.ensures.answer u.such.line u.such.good)
+    c.in_ok-read_header.ensures.fares.cause.steady _ _ _ c.in_ok-file.file (c.in_ok-file.ensures.answer u.such.line u.such.good)
 
 pub reading-preserved : goal.reading-preserved
 reading-preserved g c =
     let i = c.reading.invariant in
     let u = rw c.in-Some.is at c.in_ok-read_header.ensures.answer in
     let m = one_file_more _ _ _ _ _ _ _ _ _ i.steady _ i.files _ (count c.reading.files _ c.len-before.ensures) c.in-Some.header u c.if-header.false
-    c.in_ok-read_header.ensures.cause.steady _ _ _ c.in_ok-file.file (c.in_ok-file.ensures.answer u.such.line u.such.good) in
+    c.in_ok-read_header.ensures.fares.cause.steady _ _ _ c.in_ok-file.file (c.in_ok-file.ensures.answer u.such.line u.such.good) in
     let e = c.in_default.ensures.items in
     let a = map-append (λ (file : Vec ℕ). file.items) c.reading.files.items (c.in_ok-file.file ∷ []) in
     record {
       files = rw (e, a) m;
-      small = rw e (All-push (λ (file : Vec ℕ). length file.items ≤ max_batch_file_bytes) c.reading.files.items c.in_ok-file.file i.small c.in_ok-file.ensures.small);
-      steady = c.in_ok-file.ensures.cause.steady ∙ c.in_ok-read_header.ensures.cause.steady ∙ i.steady;
-      good = c.in_ok-file.ensures.good;
-      limit = c.in_ok-file.ensures.limit ∙ c.in_ok-read_header.ensures.limit ∙ i.limit;
-      at_end = c.in_ok-file.ensures.at_end;
-      unasked = λ t.
-          let old = i.unasked t in
-          let header = c.in_ok-read_header.ensures.stays old.0 in
-          (c.in_ok-file.ensures.stays header, c.in_ok-file.ensures.unasked header ∙ c.in_ok-read_header.ensures.unasked old.0 ∙ old.1);
+      small = rw e (All-push (λ (file : Vec ℕ). length file.items ≤ max_batch_file_bytes) c.reading.files.items c.in_ok-file.file i.small c.in_ok-file.ensures.gives.small);
+      steady = c.in_ok-file.ensures.fares.cause.steady ∙ c.in_ok-read_header.ensures.fares.cause.steady ∙ i.steady;
+      can = record { good = c.in_ok-file.ensures.fares.good; at_end = c.in_ok-file.ensures.asks.at_end };
+      asks = asks_then i.asks (asks_then c.in_ok-read_header.ensures.asks c.in_ok-file.ensures.asks);
     }
-
-pub returns-in_err-read_header-clause-bad : goal.returns-in_err-read_header-clause-bad
-returns-in_err-read_header-clause-bad g c =
-    bad_frame_on_call c.args.input.now (seen g.S.Source.left g.S.Source.faults c.args.source.now c.read_header.new.source) c.read_header.new.input.ahead c.from_residual.result
-    (returns-in_err-read_header-clause-answer g c)
-
-pub returns-in-None-clause-bad : goal.returns-in-None-clause-bad
-returns-in-None-clause-bad g c =
-    bad_frame_on_call c.args.input.now (seen g.S.Source.left g.S.Source.faults c.args.source.now c.read_header.new.source) c.read_header.new.input.ahead (Ok c.reading.files)
-    (returns-in-None-clause-answer g c)
-
-pub returns-then-header-clause-bad : goal.returns-then-header-clause-bad
-returns-then-header-clause-bad g c =
-    bad_frame_on_call c.args.input.now (seen g.S.Source.left g.S.Source.faults c.args.source.now c.read_header.new.source) c.read_header.new.input.ahead c.end_with.result
-    (returns-then-header-clause-answer g c)
-
-pub returns-in_err-file-clause-bad : goal.returns-in_err-file-clause-bad
-returns-in_err-file-clause-bad g c =
-    bad_frame_on_call c.args.input.now (seen g.S.Source.left g.S.Source.faults c.args.source.now c.read_file.new.source) c.read_file.new.input.ahead c.from_residual-in_err-file.result
-    (returns-in_err-file-clause-answer g c)

@@ -2,6 +2,7 @@ use Rattle.std.proofs.Common.{refl, ◌∙◌}
 use Rattle.std.proofs.lemmas.Result.{err_from_is_err_and}
 use Rattle.mm_reader.specs.Fronts.{front}
 use Rattle.mm_frames.proofs.StepLaws.{header_stopped, last_refused, line_refused, line_taken, line_goes_on}
+use Rattle.mm_frames.proofs.UsedLaws.{asks_then}
 use Rattle.mm_frames.proofs.header.read_header.Goals as goal
 
 pub returns-in-Err-clause-answer : goal.returns-in-Err-clause-answer
@@ -53,8 +54,6 @@ reading-preserved g c =
           (g.S.Source.faults c.args.source.now) (g.S.Source.faults c.reading.source) (g.S.Source.faults c.next_byte.new.source) i.steady c.args.before c.reading.line c.reading.begun i.begins b.byte u c.push.new.self b.byte-test.1
           (c.push.ensures i.begins.used i.begins.line_is);
       steady = b.ensures.cause.steady ∙ i.steady;
-      good = b.ensures.good.1 refl;
-      limit = b.ensures.limit ∙ i.limit;
-      at_end = b.ensures.at_end;
-      unasked = λ t. let e = i.unasked t in (b.ensures.stays e.0, b.ensures.unasked e.0 ∙ e.1);
+      can = record { good = b.ensures.good.1 refl; at_end = b.ensures.asks.at_end };
+      asks = asks_then i.asks b.ensures.asks;
     }

@@ -1,12 +1,11 @@
 use Rattle.std.proofs.Common.{◌≡◌, false, length, List, [], ◌∷◌, ◌++◌, refl, sym, ap, subst, ◌∙◌, arith}
 use Rattle.std.proofs.lemmas.Result.{err_from_is_err_and}
-use Rattle.sp_ports.specs.Device.{seen}
 use Rattle.mm_defs.specs.Words.{lines, open_line}
 use Rattle.mm_reader.specs.Fronts.{front}
 use Rattle.mm_frames.specs.declared.edit.Edit.{Edit}
 use Rattle.mm_frames.specs.Stages.{HasRead}
-use Rattle.mm_frames.proofs.ReadLaws.{bad_line_on_call, read_at_start, read_byte, read_lf, lf_number, byte_fits, stop_known, line_known}
-use Rattle.mm_frames.proofs.UsedLaws.{stopped_used, one_more, most_known}
+use Rattle.mm_frames.proofs.ReadLaws.{edits_told, read_at_start, read_byte, read_lf, lf_number, byte_fits, stop_known, line_known}
+use Rattle.mm_frames.proofs.UsedLaws.{asks_none, asks_then, stopped_used, one_more, most_known}
 use Rattle.mm_frames.proofs.reader.read_edits.Goals as goal
 
 pub reading-init : goal.reading-init
@@ -17,27 +16,29 @@ reading-init g c =
           (sym c.new-edits.ensures.items) (read_at_start c.args.rows c.args.cols (front c.args.input.now) (g.S.Source.left c.args.source.now) c.new-line.result c.new-line.ensures);
       within = λ k d low. absurd (omega arith);
       steady = refl;
-      good = c.requires.good;
-      limit = refl;
-      at_end = c.requires.at_end;
-      unasked = λ t. (t, refl);
+      can = c.requires;
+      asks = asks_none c.requires;
       fits = λ e. absurd cc;
     }
 
-pub returns-in_err-next_byte-clause-answer : goal.returns-in_err-next_byte-clause-answer
-returns-in_err-next_byte-clause-answer g c =
+pub returns-in_err-next_byte-clause-tells : goal.returns-in_err-next_byte-clause-tells
+returns-in_err-next_byte-clause-tells g c =
     let i = c.reading.invariant in
     let q = err_from_is_err_and c.from_residual.result c.from_residual.ensures.1 in
     rw (q.1, q.2)
-    (stop_known c.args.rows c.args.cols (front c.args.input.now) (front c.reading.input) (front c.next_byte.new.input) (g.S.Source.left c.args.source.now) (g.S.Source.left c.reading.source) (g.S.Source.left c.next_byte.new.source)
-    (g.S.Source.faults c.args.source.now) (g.S.Source.faults c.reading.source) (g.S.Source.faults c.next_byte.new.source) c.reading.edits.items c.reading.line c.reading.begun i.read i.steady c.in_err-next_byte.field-0.0 c.in_err-next_byte.ensures.err)
+    (edits_told _ _ _ _ _ _ (stop_known c.args.rows c.args.cols (front c.args.input.now) (front c.reading.input) (front c.next_byte.new.input) (g.S.Source.left c.args.source.now) (g.S.Source.left c.reading.source) (g.S.Source.left c.next_byte.new.source)
+    (g.S.Source.faults c.args.source.now) (g.S.Source.faults c.reading.source) (g.S.Source.faults c.next_byte.new.source) c.reading.edits.items c.reading.line c.reading.begun i.read i.steady c.in_err-next_byte.field-0.0 c.in_err-next_byte.ensures.err))
 
-pub returns-in_err-next_byte-clause-gave : goal.returns-in_err-next_byte-clause-gave
-returns-in_err-next_byte-clause-gave g c =
+pub returns-in_err-next_byte-clause-draws : goal.returns-in_err-next_byte-clause-draws
+returns-in_err-next_byte-clause-draws g c =
     let r = c.reading.invariant.read in
     let u = stopped_used (front c.args.input.now) (front c.reading.input) (front c.next_byte.new.input) (g.S.Source.left c.args.source.now) (g.S.Source.left c.reading.source) (g.S.Source.left c.next_byte.new.source)
     (g.S.Source.faults c.reading.source) (g.S.Source.faults c.next_byte.new.source) r.used r.so_far c.in_err-next_byte.field-0.0 c.in_err-next_byte.ensures.err in
-    (u.gave, u.given)
+    record {
+      gave = (u.gave, u.given);
+      most = most_known _ _ _ _ _ u (g.S.Source.faults c.args.source.now) (g.S.Source.faults c.next_byte.new.source) c.in_err-next_byte.ensures.most;
+      asks = asks_then c.reading.invariant.asks c.in_err-next_byte.ensures.asks;
+    }
 
 pub finish-requires : goal.finish-requires
 finish-requires g c begun =
@@ -46,8 +47,8 @@ finish-requires g c begun =
     let u = rw c.in-None.is at c.in_ok-next_byte.ensures.ok in
     omega (arith, c.lines.ensures, u.lines_are)
 
-pub returns-in_err-take_line-in-Some-eq10-clause-answer : goal.returns-in_err-take_line-in-Some-eq10-clause-answer
-returns-in_err-take_line-in-Some-eq10-clause-answer g c =
+pub returns-in_err-take_line-in-Some-eq10-clause-tells : goal.returns-in_err-take_line-in-Some-eq10-clause-tells
+returns-in_err-take_line-in-Some-eq10-clause-tells g c =
     let i = c.reading.invariant in
     let b = c.in-Some-eq10 in
     let u = rw b.is at c.in_ok-next_byte.ensures.ok in
@@ -56,28 +57,23 @@ returns-in_err-take_line-in-Some-eq10-clause-answer g c =
     (g.S.Source.faults c.reading.source) (g.S.Source.faults c.next_byte.new.source) b.field-0 c.reading.edits.items c.reading.line c.reading.line c.reading.begun r u c.lines-in-Some-eq10.result b.field-0-test c.lines-in-Some-eq10.ensures in
     let q = err_from_is_err_and c.from_residual-in_err-take_line-in-Some-eq10.result c.from_residual-in_err-take_line-in-Some-eq10.ensures.1 in
     rw (q.1, q.2)
-    (line_known c.args.rows c.args.cols (front c.args.input.now) (front c.reading.input) (front c.next_byte.new.input) (g.S.Source.left c.args.source.now) (g.S.Source.left c.reading.source) (g.S.Source.left c.next_byte.new.source)
+    (edits_told _ _ _ _ _ _ (line_known c.args.rows c.args.cols (front c.args.input.now) (front c.reading.input) (front c.next_byte.new.input) (g.S.Source.left c.args.source.now) (g.S.Source.left c.reading.source) (g.S.Source.left c.next_byte.new.source)
     (g.S.Source.faults c.args.source.now) (g.S.Source.faults c.reading.source) (g.S.Source.faults c.next_byte.new.source) c.reading.edits.items c.reading.line c.reading.begun r b.field-0 b.field-0-test u c.in_err-take_line-in-Some-eq10.field-0.0
-    (c.in_err-take_line-in-Some-eq10.ensures.steps c.args.input.now.lines (open_line r.used) r.stands.open_is (lines false r.used) r.stands.lines_are n))
+    (c.in_err-take_line-in-Some-eq10.ensures.steps c.args.input.now.lines (open_line r.used) r.stands.open_is (lines false r.used) r.stands.lines_are n)))
 
-pub returns-in_err-take_line-in-Some-eq10-clause-gave : goal.returns-in_err-take_line-in-Some-eq10-clause-gave
-returns-in_err-take_line-in-Some-eq10-clause-gave g c =
+pub returns-in_err-take_line-in-Some-eq10-clause-draws : goal.returns-in_err-take_line-in-Some-eq10-clause-draws
+returns-in_err-take_line-in-Some-eq10-clause-draws g c =
     let b = c.in-Some-eq10 in
     let u = rw b.is at c.in_ok-next_byte.ensures.ok in
     let r = c.reading.invariant.read in
     let m = one_more (front c.args.input.now) (front c.reading.input) (front c.next_byte.new.input) (g.S.Source.left c.args.source.now) (g.S.Source.left c.reading.source) (g.S.Source.left c.next_byte.new.source)
     (g.S.Source.faults c.reading.source) (g.S.Source.faults c.next_byte.new.source) r.used r.so_far b.field-0 u in
-    (m.gave, m.given)
-
-pub returns-in_err-take_line-in-Some-eq10-clause-most : goal.returns-in_err-take_line-in-Some-eq10-clause-most
-returns-in_err-take_line-in-Some-eq10-clause-most g c =
-    let b = c.in-Some-eq10 in
-    let u = rw b.is at c.in_ok-next_byte.ensures.ok in
-    let r = c.reading.invariant.read in
-    let m = one_more (front c.args.input.now) (front c.reading.input) (front c.next_byte.new.input) (g.S.Source.left c.args.source.now) (g.S.Source.left c.reading.source) (g.S.Source.left c.next_byte.new.source)
-    (g.S.Source.faults c.reading.source) (g.S.Source.faults c.next_byte.new.source) r.used r.so_far b.field-0 u in
-    most_known (front c.args.input.now) (front c.next_byte.new.input) (g.S.Source.left c.args.source.now) (g.S.Source.left c.next_byte.new.source) (r.used ++ b.field-0 ∷ []) m (g.S.Source.faults c.args.source.now)
-    (g.S.Source.faults c.next_byte.new.source) c.in_ok-next_byte.ensures.most
+    record {
+      gave = (m.gave, m.given);
+      most = most_known (front c.args.input.now) (front c.next_byte.new.input) (g.S.Source.left c.args.source.now) (g.S.Source.left c.next_byte.new.source) (r.used ++ b.field-0 ∷ []) m (g.S.Source.faults c.args.source.now)
+          (g.S.Source.faults c.next_byte.new.source) c.in_ok-next_byte.ensures.most;
+      asks = asks_then c.reading.invariant.asks c.in_ok-next_byte.ensures.asks;
+    }
 
 pub reading-preserved-in-Some-eq10 : goal.reading-preserved-in-Some-eq10
 reading-preserved-in-Some-eq10 g c =
@@ -93,10 +89,8 @@ reading-preserved-in-Some-eq10 g c =
           (c.in_ok-take_line-in-Some-eq10.ensures.steps c.args.input.now.lines (open_line r.used) r.stands.open_is (lines false r.used) r.stands.lines_are n) (c.clear.ensures (open_line r.used) r.stands.open_is);
       within = c.in_ok-take_line-in-Some-eq10.ensures.within i.within;
       steady = c.in_ok-next_byte.ensures.cause.steady ∙ i.steady;
-      good = c.in_ok-next_byte.ensures.good.1 refl;
-      limit = c.in_ok-next_byte.ensures.limit ∙ i.limit;
-      at_end = c.in_ok-next_byte.ensures.at_end;
-      unasked = λ t. let e = i.unasked t in (c.in_ok-next_byte.ensures.stays e.0, c.in_ok-next_byte.ensures.unasked e.0 ∙ e.1);
+      can = record { good = c.in_ok-next_byte.ensures.good.1 refl; at_end = c.in_ok-next_byte.ensures.asks.at_end };
+      asks = asks_then i.asks c.in_ok-next_byte.ensures.asks;
       fits = λ e. absurd cc;
     }
 
@@ -111,20 +105,8 @@ reading-preserved g c =
           (g.S.Source.faults c.reading.source) (g.S.Source.faults c.next_byte.new.source) b.byte c.reading.edits.items c.reading.line c.push.new.self c.reading.begun r u b.byte-test.1 (c.push.ensures (open_line r.used) r.stands.open_is);
       within = i.within;
       steady = c.in_ok-next_byte.ensures.cause.steady ∙ i.steady;
-      good = c.in_ok-next_byte.ensures.good.1 refl;
-      limit = c.in_ok-next_byte.ensures.limit ∙ i.limit;
-      at_end = c.in_ok-next_byte.ensures.at_end;
-      unasked = λ t. let e = i.unasked t in (c.in_ok-next_byte.ensures.stays e.0, c.in_ok-next_byte.ensures.unasked e.0 ∙ e.1);
+      can = record { good = c.in_ok-next_byte.ensures.good.1 refl; at_end = c.in_ok-next_byte.ensures.asks.at_end };
+      asks = asks_then i.asks c.in_ok-next_byte.ensures.asks;
       fits = λ e. byte_fits c.args.rows c.args.cols (front c.args.input.now) (front c.reading.input) (front c.next_byte.new.input) (g.S.Source.left c.args.source.now) (g.S.Source.left c.reading.source) (g.S.Source.left c.next_byte.new.source)
           (g.S.Source.faults c.reading.source) (g.S.Source.faults c.next_byte.new.source) b.byte c.reading.edits.items c.reading.line c.push.new.self c.reading.begun r u b.byte-test.1 c.in_ok-next_byte.ensures.fits;
     }
-
-pub returns-in_err-next_byte-clause-bad : goal.returns-in_err-next_byte-clause-bad
-returns-in_err-next_byte-clause-bad g c =
-    bad_line_on_call c.args.rows c.args.cols c.args.input.now (seen g.S.Source.left g.S.Source.faults c.args.source.now c.next_byte.new.source) c.next_byte.new.input.ahead c.from_residual.result
-    (returns-in_err-next_byte-clause-answer g c)
-
-pub returns-in_err-take_line-in-Some-eq10-clause-bad : goal.returns-in_err-take_line-in-Some-eq10-clause-bad
-returns-in_err-take_line-in-Some-eq10-clause-bad g c =
-    bad_line_on_call c.args.rows c.args.cols c.args.input.now (seen g.S.Source.left g.S.Source.faults c.args.source.now c.next_byte.new.source) c.next_byte.new.input.ahead c.from_residual-in_err-take_line-in-Some-eq10.result
-    (returns-in_err-take_line-in-Some-eq10-clause-answer g c)

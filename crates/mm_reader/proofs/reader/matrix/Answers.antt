@@ -1,11 +1,12 @@
-use Rattle.std.proofs.Common.{◌<◌, [], refl, sym, ◌∙◌, arith, subst}
+use Rattle.std.proofs.Common.{◌<◌, refl, sym, ◌∙◌, arith, subst}
 use Rattle.std.proofs.lemmas.Result.{err_from_is_err_and}
 use Rattle.sp_ports.specs.Device.{SourceRose}
 use Rattle.mm_defs.specs.declared.answers.ReadError.TheVariants as errors
 use Rattle.mm_reader.specs.Windows.{ahead_of}
 use Rattle.mm_reader.proofs.EntryLimits.{complete_within}
 use Rattle.mm_reader.proofs.Exits.{rose_since, exit_refused, exit_fault, exit_done, exit_end, memory_known, closed_used, file_open, on_ok, refused_kind, refused_no_fault, ended_kind, ended_no_fault, ended_in_room, same_error, turn_smaller, all_used}
-use Rattle.mm_reader.proofs.Progress.{fed_start, fed_consumed, fed_refilled, none_used, more_used, not_refilled, keeps, counted_known, most_known, closed_known, at_end_known}
+use Rattle.mm_reader.proofs.Leaving.{asks_more, asks_none, asks_same, ends_over, leaves}
+use Rattle.mm_reader.proofs.Progress.{fed_start, fed_consumed, fed_refilled, none_used, more_used, not_refilled, closed_known}
 use Rattle.mm_reader.proofs.reader.matrix.Goals as goal
 
 pub returns-in-Err : goal.returns-in-Err
@@ -15,18 +16,13 @@ returns-in-Err g c =
       known = memory_known c.args.end c.args.window.now c.args.window.now _ _ _;
       kind = tt;
       within = tt;
-      gave = (h.gave, h.known);
-      most = most_known c.args.window.now c.args.window.now [] (g.S.Source.faults c.args.source.now) (g.S.Source.faults c.args.source.now) _ _ h c.requires.window;
-      cause = record { counts = omega arith; steady = tt; failed = λ e. absurd cc };
-      counted = counted_known c.args.window.now c.args.window.now [] _ _ h;
-      past = λ e. absurd cc;
-      window = keeps c.args.window.now c.args.window.now [] _ _ h c.requires.window;
-      at_end = c.requires.at_end;
-      unasked = λ e. refl;
-      stays = λ e. e;
-      ended = tt;
-      last_line = tt;
-      in_room = tt;
+      leaves = leaves _ g.S.Source.faults _ _ _ _ _ h c.requires.window (asks_none c.requires.at_end);
+      cause = record {
+        fault = record { counts = omega arith; steady = tt; failed = λ e. absurd cc };
+        past = λ e. absurd cc;
+        in_room = tt;
+      };
+      ends = tt;
     }
 
 pub consume-requires-clause-stands : goal.consume-requires-clause-stands
@@ -44,18 +40,13 @@ returns-in_err-done g c =
       known = exit_refused c.args.end c.args.window.now (g.S.Source.faults c.args.source.now) (g.S.Source.faults c.reading.source) c.reading.m c.reading.window i.window c.consume.new.window _ _ c.in_err-done.field-0.0 i.fed e.err;
       kind = refused_kind _ _ _ _ _ (e.err i.fed.used i.fed.stands);
       within = tt;
-      gave = (h.gave, h.known);
-      most = most_known c.args.window.now c.consume.new.window _ (g.S.Source.faults c.args.source.now) (g.S.Source.faults c.reading.source) _ _ h e.window;
-      cause = record { counts = omega (arith, i.steady); steady = tt; failed = λ x. absurd (refused_no_fault _ _ _ _ _ (e.err i.fed.used i.fed.stands) x) };
-      counted = counted_known c.args.window.now c.consume.new.window _ _ _ h;
-      past = λ x. e.past (same_error c.in_err-done.field-0.0 errors.TooLong x);
-      window = keeps c.args.window.now c.consume.new.window _ _ _ h e.window;
-      at_end = λ t. i.at_end (rw (← u.at_end_same) t);
-      unasked = λ t. (i.unasked t).1;
-      stays = λ t. rw u.at_end_same ((i.unasked t).0);
-      ended = tt;
-      last_line = tt;
-      in_room = tt;
+      leaves = leaves _ g.S.Source.faults _ _ _ _ _ h e.window (asks_same i.asks u.at_end_same);
+      cause = record {
+        fault = record { counts = omega (arith, i.steady); steady = tt; failed = λ x. absurd (refused_no_fault _ _ _ _ _ (e.err i.fed.used i.fed.stands) x) };
+        past = λ x. e.past (same_error c.in_err-done.field-0.0 errors.TooLong x);
+        in_room = tt;
+      };
+      ends = tt;
     })
 
 pub returns-then-done : goal.returns-then-done
@@ -71,18 +62,16 @@ returns-then-done g c =
           _ _ c.triples_of.result f (sym e.ok.done_is ∙ c.if-done.true) closed c.triples_of.ensures;
       kind = tt;
       within = rw c.triples_of.ensures (complete_within c.args.end c.consume.new.m.phase c.consume.new.m.triples e.ok.ready (sym e.ok.done_is ∙ c.if-done.true));
-      gave = (h.gave, h.known);
-      most = most_known c.args.window.now c.consume.new.window f.used (g.S.Source.faults c.args.source.now) (g.S.Source.faults c.reading.source) _ _ h e.window;
-      cause = record { counts = omega (arith, i.steady); steady = i.steady; failed = λ x. absurd cc };
-      counted = counted_known c.args.window.now c.consume.new.window f.used _ _ h;
-      past = λ x. absurd cc;
-      window = keeps c.args.window.now c.consume.new.window f.used _ _ h e.window;
-      at_end = λ t. i.at_end (rw (← u.at_end_same) t);
-      unasked = λ t. (i.unasked t).1;
-      stays = λ t. rw u.at_end_same ((i.unasked t).0);
-      ended = λ x. absurd (file_open c.args.end c.consume.new.m.phase x (sym e.ok.done_is ∙ c.if-done.true));
-      last_line = closed_known c.args.window.now c.consume.new.window f.used _ _ h closed;
-      in_room = e.in_room;
+      leaves = leaves _ g.S.Source.faults _ _ _ _ _ h e.window (asks_same i.asks u.at_end_same);
+      cause = record {
+        fault = record { counts = omega (arith, i.steady); steady = i.steady; failed = λ x. absurd cc };
+        past = λ x. absurd cc;
+        in_room = e.in_room;
+      };
+      ends = record {
+        ended = λ x. absurd (file_open c.args.end c.consume.new.m.phase x (sym e.ok.done_is ∙ c.if-done.true));
+        last_line = closed_known c.args.window.now c.consume.new.window f.used _ _ h closed;
+      };
     }
 
 pub returns-then-window : goal.returns-then-window
@@ -95,21 +84,16 @@ returns-then-window g c =
     let answer = c.conclude.ensures.steps c.args.end f.used f.stands (sym e.ok.done_is ∙ c.if-done.false) in
     record {
       known = exit_end c.args.end c.args.window.now (g.S.Source.faults c.args.source.now) (g.S.Source.faults c.reading.source) c.consume.new.m c.consume.new.window e.window
-          _ _ c.conclude.result f (e.ok.all c.if-done.false) (i.at_end (rw (← u.at_end_same) c.if-window.true)) i.steady (sym e.ok.done_is ∙ c.if-done.false) c.conclude.ensures.steps;
+          _ _ c.conclude.result f (e.ok.all c.if-done.false) (i.asks.at_end (rw (← u.at_end_same) c.if-window.true)) i.steady (sym e.ok.done_is ∙ c.if-done.false) c.conclude.ensures.steps;
       kind = ended_kind _ c.args.end f.used c.conclude.result answer;
       within = c.conclude.ensures.within;
-      gave = (h.gave, h.known);
-      most = most_known c.args.window.now c.consume.new.window f.used (g.S.Source.faults c.args.source.now) (g.S.Source.faults c.reading.source) _ _ h e.window;
-      cause = record { counts = omega (arith, i.steady); steady = on_ok _ c.conclude.result i.steady; failed = λ x. absurd (ended_no_fault _ c.args.end f.used c.conclude.result answer x) };
-      counted = counted_known c.args.window.now c.consume.new.window f.used _ _ h;
-      past = λ x. absurd (ended_in_room _ c.args.end f.used c.conclude.result answer x);
-      window = keeps c.args.window.now c.consume.new.window f.used _ _ h e.window;
-      at_end = λ t. i.at_end (rw (← u.at_end_same) t);
-      unasked = λ t. (i.unasked t).1;
-      stays = λ t. c.if-window.true;
-      ended = on_ok _ c.conclude.result (λ x. c.if-window.true);
-      last_line = on_ok _ c.conclude.result (at_end_known c.args.window.now c.consume.new.window f.used _ _ h c.if-window.true);
-      in_room = on_ok _ c.conclude.result e.in_room;
+      leaves = leaves _ g.S.Source.faults _ _ _ _ _ h e.window (asks_same i.asks u.at_end_same);
+      cause = record {
+        fault = record { counts = omega (arith, i.steady); steady = on_ok _ c.conclude.result i.steady; failed = λ x. absurd (ended_no_fault _ c.args.end f.used c.conclude.result answer x) };
+        past = λ x. absurd (ended_in_room _ c.args.end f.used c.conclude.result answer x);
+        in_room = on_ok _ c.conclude.result e.in_room;
+      };
+      ends = on_ok _ c.conclude.result (ends_over c.args.end _ _ _ _ _ h c.if-window.true);
     }
 
 pub returns-in-Err-refill : goal.returns-in-Err-refill
@@ -128,18 +112,13 @@ returns-in-Err-refill g c =
           (g.S.Source.left c.args.source.now) (g.S.Source.left c.reading.source) f none (sym e.ok.done_is ∙ c.if-done.false) s);
       kind = tt;
       within = tt;
-      gave = (h.gave, h.known);
-      most = most_known c.args.window.now c.refill.new.window f.used (g.S.Source.faults c.args.source.now) (g.S.Source.faults c.refill.new.source) _ _ h r.window;
-      cause = record { counts = omega (arith, i.steady, r.cause.counts); steady = tt; failed = λ x. s };
-      counted = counted_known c.args.window.now c.refill.new.window f.used _ _ h;
-      past = λ x. absurd cc;
-      window = keeps c.args.window.now c.refill.new.window f.used _ _ h r.window;
-      at_end = λ t. rw r.kept (i.at_end (rw (← u.at_end_same, ← r.same) t));
-      unasked = λ t. let a = (i.unasked t).0 in let b = u.at_end_same in let d = c.if-window.false in absurd cc;
-      stays = λ t. let a = (i.unasked t).0 in let b = u.at_end_same in let d = c.if-window.false in absurd cc;
-      ended = tt;
-      last_line = tt;
-      in_room = tt;
+      leaves = leaves _ g.S.Source.faults _ _ _ _ _ h r.window (asks_more (asks_same {w2 = c.consume.new.window} i.asks u.at_end_same) c.if-window.false (λ t. rw r.kept (i.asks.at_end (rw (← u.at_end_same, ← r.same) t))));
+      cause = record {
+        fault = record { counts = omega (arith, i.steady, r.cause.counts); steady = tt; failed = λ x. s };
+        past = λ x. absurd cc;
+        in_room = tt;
+      };
+      ends = tt;
     }
 
 pub reading-init : goal.reading-init
@@ -150,8 +129,7 @@ reading-init g c =
       ready = s.ready;
       open_now = s.open c.args.end;
       number = omega (arith, s.none);
-      at_end = c.requires.at_end;
-      unasked = λ t. (t, refl);
+      asks = asks_none c.requires.at_end;
       steady = refl;
       fed = fed_start c.args.end c.args.window.now c.in-Ok.m _ (s.stands c.args.end);
     }
@@ -168,8 +146,7 @@ reading-preserved g c =
       ready = e.ok.ready;
       open_now = sym e.ok.done_is ∙ c.if-done.false;
       number = omega (arith, r.room, e.ok.number, e.ok.uses.room_is, i.number);
-      at_end = r.end;
-      unasked = λ t. let a = (i.unasked t).0 in let b = u.at_end_same in let d = c.if-window.false in absurd cc;
+      asks = asks_more (asks_same {w2 = c.consume.new.window} i.asks u.at_end_same) c.if-window.false r.end;
       steady = r.cause.steady ∙ i.steady;
       fed = fed_refilled c.args.end c.args.window.now c.consume.new.window c.refill.new.window _ _ _ c.consume.new.m f (e.ok.all c.if-done.false) r.bytes r.room r.lines;
     }

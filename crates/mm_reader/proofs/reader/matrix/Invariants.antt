@@ -1,6 +1,6 @@
-use Rattle.std.proofs.Common.{◌≡◌, ◌≤◌, ◌+◌, ◌*◌, ◌==◌, if◌then◌else◌, false, IsTrue}
-use Rattle.sp_ports.specs.Bytes.{IsAtEnd}
+use Rattle.std.proofs.Common.{◌≡◌, ◌≤◌, ◌+◌, ◌*◌, ◌==◌, if◌then◌else◌, false}
 use Rattle.mm_reader.specs.Machine.{IsReady, is_complete}
+use Rattle.mm_reader.specs.Readings.{AsksOnce}
 use Rattle.mm_reader.specs.Stages.{begun_lines}
 use Rattle.mm_reader.specs.Windows.{IsWindow}
 use Rattle.mm_reader.proofs.Progress.{Fed}
@@ -12,8 +12,7 @@ invariant-reading g l = record {
   ready : IsReady l.m.phase l.m.triples;
   open_now : is_complete l.end l.m.phase ≡ false;
   number : begun_lines l.m + l.window.room ≤ l.fn.window.room;
-  at_end : IsTrue l.window.at_end → IsAtEnd (g.S.Source.left l.source);
-  unasked : IsTrue l.fn.window.at_end → IsTrue l.window.at_end × (l.source ≡ l.fn.source);
+  asks : AsksOnce g.S.Source.left l.fn.source l.source l.fn.window l.window;
   steady : g.S.Source.faults l.source ≡ g.S.Source.faults l.fn.source;
   fed : Fed l.end l.fn.window l.window (g.S.Source.left l.fn.source) (g.S.Source.left l.source) l.m;
 }

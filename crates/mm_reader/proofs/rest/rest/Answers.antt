@@ -3,7 +3,8 @@ use Rattle.std.proofs.lemmas.Result.{err_from_is_err_and}
 use Rattle.sp_ports.specs.Device.{SourceRose}
 use Rattle.mm_reader.specs.declared.window.Window.{Window}
 use Rattle.mm_reader.proofs.Exits.{rose_since, turn_smaller}
-use Rattle.mm_reader.proofs.Progress.{HasUsed, none_used, all_taken, refilled, not_refilled, keeps, counted_known, most_known}
+use Rattle.mm_reader.proofs.Leaving.{asks_more, asks_none, asks_same, leaves}
+use Rattle.mm_reader.proofs.Progress.{HasUsed, none_used, all_taken, refilled, not_refilled}
 use Rattle.mm_reader.proofs.RestLaws.{rest_refused, rest_fault, rest_read, past_ahead, refused_no_rest_fault, unjudged}
 use Rattle.mm_reader.proofs.rest.rest.Goals as goal
 
@@ -17,17 +18,13 @@ returns-in_err-take_ahead g c =
     (record {
       known = rest_refused c.args.window.now (g.S.Source.faults c.args.source.now) (g.S.Source.faults c.reading.source) c.reading.bytes.items c.reading.window _ _ c.in_err-take_ahead.field-0.0 i.so_far e.err;
       unjudged = unjudged c.reading.window c.in_err-take_ahead.field-0.0 e.err;
-      gave = (h.gave, h.known);
-      most = most_known c.args.window.now c.take_ahead.new.window c.reading.bytes.items (g.S.Source.faults c.args.source.now) (g.S.Source.faults c.reading.source) _ _ h e.window.window;
-      cause = record { counts = omega (arith, i.steady); steady = tt; failed = λ x. absurd (refused_no_rest_fault _ c.reading.window c.in_err-take_ahead.field-0.0 e.err x) };
-      counted = counted_known c.args.window.now c.take_ahead.new.window c.reading.bytes.items _ _ h;
-      past = λ x. rw e.same (past_ahead _ c.reading.window i.window c.in_err-take_ahead.field-0.0 e.err x);
-      window = keeps c.args.window.now c.take_ahead.new.window c.reading.bytes.items _ _ h e.window.window;
-      at_end = λ t. i.at_end (rw (← e.at_end) t);
-      unasked = λ t. (i.unasked t).1;
-      stays = λ t. rw e.at_end ((i.unasked t).0);
+      leaves = leaves _ g.S.Source.faults _ _ _ _ _ h e.window.window (asks_same i.asks e.at_end);
+      cause = record {
+        fault = record { counts = omega (arith, i.steady); steady = tt; failed = λ x. absurd (refused_no_rest_fault _ c.reading.window c.in_err-take_ahead.field-0.0 e.err x) };
+        past = λ x. rw e.same (past_ahead _ c.reading.window i.window c.in_err-take_ahead.field-0.0 e.err x);
+        in_room = tt;
+      };
       ended = tt;
-      in_room = tt;
     })
 
 pub returns-then-window : goal.returns-then-window
@@ -36,19 +33,15 @@ returns-then-window g c =
     let e = c.in_ok-take_ahead.ensures in
     let h = all_taken c.args.window.now c.reading.window c.take_ahead.new.window (g.S.Source.left c.args.source.now) (g.S.Source.left c.reading.source) c.reading.bytes.items i.so_far c.take_ahead.new.bytes.items e.ok in
     record {
-      known = rest_read c.args.window.now (g.S.Source.faults c.args.source.now) (g.S.Source.faults c.reading.source) c.take_ahead.new.bytes.items c.take_ahead.new.window _ _ h e.ok.ahead_is (i.at_end (rw (← e.at_end) c.if-window.true)) i.steady;
+      known = rest_read c.args.window.now (g.S.Source.faults c.args.source.now) (g.S.Source.faults c.reading.source) c.take_ahead.new.bytes.items c.take_ahead.new.window _ _ h e.ok.ahead_is (i.asks.at_end (rw (← e.at_end) c.if-window.true)) i.steady;
       unjudged = tt;
-      gave = (h.gave, h.known);
-      most = most_known c.args.window.now c.take_ahead.new.window c.take_ahead.new.bytes.items (g.S.Source.faults c.args.source.now) (g.S.Source.faults c.reading.source) _ _ h e.window.window;
-      cause = record { counts = omega (arith, i.steady); steady = i.steady; failed = λ x. absurd cc };
-      counted = counted_known c.args.window.now c.take_ahead.new.window c.take_ahead.new.bytes.items _ _ h;
-      past = λ x. absurd cc;
-      window = keeps c.args.window.now c.take_ahead.new.window c.take_ahead.new.bytes.items _ _ h e.window.window;
-      at_end = λ t. i.at_end (rw (← e.at_end) t);
-      unasked = λ t. (i.unasked t).1;
-      stays = λ t. c.if-window.true;
+      leaves = leaves _ g.S.Source.faults _ _ _ _ _ h e.window.window (asks_same i.asks e.at_end);
+      cause = record {
+        fault = record { counts = omega (arith, i.steady); steady = i.steady; failed = λ x. absurd cc };
+        past = λ x. absurd cc;
+        in_room = e.in_room;
+      };
       ended = c.if-window.true;
-      in_room = e.in_room;
     }
 
 pub returns-in-Err : goal.returns-in-Err
@@ -63,24 +56,19 @@ returns-in-Err g c =
     record {
       known = rest_fault c.args.window.now (g.S.Source.faults c.args.source.now) (g.S.Source.faults c.refill.new.source) c.take_ahead.new.bytes.items c.refill.new.window _ _ h r.none s;
       unjudged = tt;
-      gave = (h.gave, h.known);
-      most = most_known c.args.window.now c.refill.new.window c.take_ahead.new.bytes.items (g.S.Source.faults c.args.source.now) (g.S.Source.faults c.refill.new.source) _ _ h r.window;
-      cause = record { counts = omega (arith, i.steady, r.cause.counts); steady = tt; failed = λ x. s };
-      counted = counted_known c.args.window.now c.refill.new.window c.take_ahead.new.bytes.items _ _ h;
-      past = λ x. absurd cc;
-      window = keeps c.args.window.now c.refill.new.window c.take_ahead.new.bytes.items _ _ h r.window;
-      at_end = λ t. rw r.kept (i.at_end (rw (← e.at_end, ← r.same) t));
-      unasked = λ t. let a = (i.unasked t).0 in let b = e.at_end in let d = c.if-window.false in absurd cc;
-      stays = λ t. let a = (i.unasked t).0 in let b = e.at_end in let d = c.if-window.false in absurd cc;
+      leaves = leaves _ g.S.Source.faults _ _ _ _ _ h r.window (asks_more (asks_same {w2 = c.take_ahead.new.window} i.asks e.at_end) c.if-window.false (λ t. rw r.kept (i.asks.at_end (rw (← e.at_end, ← r.same) t))));
+      cause = record {
+        fault = record { counts = omega (arith, i.steady, r.cause.counts); steady = tt; failed = λ x. s };
+        past = λ x. absurd cc;
+        in_room = tt;
+      };
       ended = tt;
-      in_room = tt;
     }
 
 pub reading-init : goal.reading-init
 reading-init g c = record {
   window = c.requires.window;
-  at_end = c.requires.at_end;
-  unasked = λ t. (t, refl);
+  asks = asks_none c.requires.at_end;
   steady = refl;
   so_far = subst (λ (t : List ℕ). HasUsed c.args.window.now c.args.window.now (g.S.Source.left c.args.source.now) (g.S.Source.left c.args.source.now) t) (sym c.new-bytes.ensures.items) (none_used c.args.window.now (g.S.Source.left c.args.source.now));
 }
@@ -93,8 +81,7 @@ reading-preserved g c =
     let r = c.in_default.ensures in
     record {
       window = r.window;
-      at_end = r.end;
-      unasked = λ t. let a = (i.unasked t).0 in let b = e.at_end in let d = c.if-window.false in absurd cc;
+      asks = asks_more (asks_same {w2 = c.take_ahead.new.window} i.asks e.at_end) c.if-window.false r.end;
       steady = r.cause.steady ∙ i.steady;
       so_far = refilled c.args.window.now c.take_ahead.new.window c.refill.new.window _ _ c.take_ahead.new.bytes.items k _ e.ok.ahead_is r.bytes r.room r.lines;
     }

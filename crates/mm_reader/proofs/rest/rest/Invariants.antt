@@ -1,5 +1,5 @@
-use Rattle.std.proofs.Common.{◌≡◌, IsTrue}
-use Rattle.sp_ports.specs.Bytes.{IsAtEnd}
+use Rattle.std.proofs.Common.{◌≡◌}
+use Rattle.mm_reader.specs.Readings.{AsksOnce}
 use Rattle.mm_reader.specs.Windows.{IsWindow}
 use Rattle.mm_reader.proofs.Exits.{measure}
 use Rattle.mm_reader.proofs.Progress.{HasUsed}
@@ -8,8 +8,7 @@ use Rattle.mm_reader.proofs.rest.rest.Given as goal
 abbrev pub invariant-reading : goal.invariant-reading
 invariant-reading g l = record {
   window : IsWindow l.window;
-  at_end : IsTrue l.window.at_end → IsAtEnd (g.S.Source.left l.source);
-  unasked : IsTrue l.fn.window.at_end → IsTrue l.window.at_end × (l.source ≡ l.fn.source);
+  asks : AsksOnce g.S.Source.left l.fn.source l.source l.fn.window l.window;
   steady : g.S.Source.faults l.source ≡ g.S.Source.faults l.fn.source;
   so_far : HasUsed l.fn.window l.window (g.S.Source.left l.fn.source) (g.S.Source.left l.source) l.bytes.items;
 }
