@@ -13,8 +13,8 @@ use Rattle.bip_defs.proofs.Full.{few_below, matching_few}
 use Rattle.bip_defs.proofs.Sets.{col_among, col_pair, number_among, number_same, one_col, one_row, rising_distinct}
 use Rattle.bip_defs.proofs.Transposed.{transpose_is}
 use Rattle.bip_graph.specs.Matching.{IsMatchingOf, IsMaximumOf, Pairing}
-use Rattle.hall_witness.specs.Back.{IsCoverButRow}
-use Rattle.hall_witness.specs.Covers.{HasMarkedMate, IsCover, IsCoverBut, IsCovered}
+use Rattle.vertex_cover.specs.Back.{IsCoverButRow}
+use Rattle.vertex_cover.specs.Covers.{HasMarkedMate, IsCover, IsCoverBut, IsCovered}
 use Rattle.sp_pattern.specs.Stored.{IsPattern}
 use Rattle.edit_session.specs.Sessions.{IsSaturating, IsKept, MatchedMatrix}
 use Rattle.edit_session.proofs.TransposeLemmas.{transpose_count, with_transpose, without_transpose}

@@ -3,7 +3,7 @@ use Rattle.std.specs.Prelude.{◌≡◌, ◌⊎◌, ◌↔◌, Bool, List, lengt
 use Rattle.bip_defs.specs.Lists.{Among}
 use Rattle.bip_defs.specs.Matrix.{Matrix, Place, cols, transpose}
 use Rattle.bip_graph.specs.Matching.{IsMaximumOf, Pairing}
-use Rattle.hall_witness.specs.Covers.{IsCover}
+use Rattle.vertex_cover.specs.Covers.{IsCover}
 
 -- a matrix, a matching of it, and the marks of the vertex cover that is kept beside them
 pub record MatchedMatrix : Type 0 where

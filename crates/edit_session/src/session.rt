@@ -10,9 +10,9 @@ ghost use Rattle.bip_defs.specs.Paths.{IsParted};
 ghost use Rattle.bip_graph.specs.Decompositions.{Decomposes, components_of};
 ghost use Rattle.bip_graph.specs.Matching.{IsMatchingOf, IsMaximumOf};
 ghost use Rattle.edit_session.specs.Sessions.{IsSaturating, IsKept, IsPaired, MatchedMatrix};
-ghost use Rattle.hall_witness.specs.Back.{IsSearchedTo};
-ghost use Rattle.hall_witness.specs.Covers.{IsCover, IsCovered, IsSearchedFrom};
-ghost use Rattle.hall_witness.specs.Over.{IsSearchedOver};
+ghost use Rattle.vertex_cover.specs.Back.{IsSearchedTo};
+ghost use Rattle.vertex_cover.specs.Covers.{IsCover, IsCovered, IsSearchedFrom};
+ghost use Rattle.vertex_cover.specs.Over.{IsSearchedOver};
 ghost use Rattle.sp_ids.specs.Limits.{max_entries};
 
 use crate::columns::Columns;
@@ -20,13 +20,14 @@ use crate::patterns::pattern_of;
 use bip_graph::{Components, Decomposition, Matching};
 use dm_coarse::{coarse, components};
 use dm_fine::fine;
-use hall_witness::{Cover, Steps, cover_shows_maximum, cover_stands};
+use hall_witness::Steps;
 use sp_ids::{Col, OutOfMemory, Row};
 use sp_pattern::{Neighbours, Pattern};
 use std::alloc::Global;
 use std::marker::Model;
 use std::sync::ledger::Ledger;
 use std::thread::Threads;
+use vertex_cover::{Cover, cover_shows_maximum, cover_stands};
 
 /// A session of edits: a matrix whose entries are set and cleared one by one, and a maximum
 /// matching of it, which each edit keeps maximum.

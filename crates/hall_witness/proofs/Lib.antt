@@ -1,14 +1,6 @@
-pub mod BackLemmas
-pub mod BackPaths
-pub mod CoverGrowth
-pub mod CoverLemmas
-pub mod CoverShrink
 pub mod MarkLemmas
-pub mod MarkTableLemmas
-pub mod OverLemmas
 pub mod PathLemmas
 pub mod Phases
-pub mod RowMarks
 pub mod ScanLemmas
 pub mod SearchLemmas
 pub mod StepLemmas

@@ -2,21 +2,24 @@
 #![tactic(auto)]
 
 mod answer;
-mod back;
-mod cover;
 mod engine;
 mod laws;
-mod mark_table;
 mod marks;
+mod paths;
 mod roots;
 mod search;
 mod steps;
 mod witness;
 
 pub use answer::Reach;
-pub use cover::Cover;
 pub use engine::plain;
-pub use laws::{cover_shows_maximum, cover_stands};
-pub use search::{reached, reached_if_maximum};
-pub use steps::Steps;
+pub use laws::{
+    columns_are_scanned, rows_are_looked_at, searches_begin, searches_end, searches_tell,
+    steps_are_counted, steps_are_few,
+};
+pub use marks::ColumnMarks;
+pub use paths::exchange;
+pub use roots::{listed_roots, other_roots, root};
+pub use search::{reached, reached_if_maximum, search_from};
+pub use steps::{Counter, Steps, Uncounted};
 pub use witness::{hall_set, reach, reach_in};

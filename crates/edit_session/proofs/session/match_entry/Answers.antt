@@ -4,7 +4,7 @@ use Rattle.bip_defs.specs.Matrix.{IsTransposeOf, Matrix, Place, entry_count}
 use Rattle.bip_defs.proofs.Sets.{col_among, row_among}
 use Rattle.bip_defs.proofs.Transposed.{transpose_is}
 use Rattle.bip_defs.proofs.Results.{some_found}
-use Rattle.hall_witness.specs.Back.{IsSearchedTo}
+use Rattle.vertex_cover.specs.Back.{IsSearchedTo}
 use Rattle.edit_session.proofs.SessionLemmas.{had_kept, more_columns, over_kept, paired_kept, searched_kept, set_but}
 use Rattle.edit_session.proofs.TransposeLemmas.{transpose_count}
 use Rattle.edit_session.proofs.session.match_entry.Goals as goal

@@ -4,6 +4,6 @@ use Rattle.hall_witness.proofs.roots.listed_roots.Given as goal
 
 abbrev pub invariant-loop-col : goal.invariant-loop-col
 invariant-loop-col g l = record {
-  roots : HasRoots (g.S.Side.matrix l.side) (g.F.Opposite.seen l.matching).pairs l.marks l.queue.items;
+  roots : HasRoots (g.S.Side.matrix l.side) (g.F.Opposite.seen l.matching).pairs (g.M.ColumnMarks.marks l.marks) l.queue.items;
   room : vec_capacity l.queue ≡ vec_capacity l.initial.queue;
 }

@@ -6,8 +6,8 @@ use Rattle.bip_defs.specs.Paths.{IsParted}
 use Rattle.bip_defs.proofs.Exchange.{parted_col_free, parted_row_free}
 use Rattle.bip_defs.proofs.Transposed.{transpose_is}
 use Rattle.bip_graph.specs.Matching.{IsMatchingOf}
-use Rattle.hall_witness.specs.Back.{IsCoverButRow, IsSearchedTo}
-use Rattle.hall_witness.specs.Covers.{IsCover, IsCoverBut, IsSearchedFrom}
+use Rattle.vertex_cover.specs.Back.{IsCoverButRow, IsSearchedTo}
+use Rattle.vertex_cover.specs.Covers.{IsCover, IsCoverBut, IsSearchedFrom}
 use Rattle.edit_session.specs.Sessions.{IsKept, MatchedMatrix}
 use Rattle.edit_session.proofs.SessionLemmas.{cleared_but, cleared_but_row, cleared_count, cleared_rows, cleared_steps, left_kept, parted_kept, parted_matching, parted_unmatched}
 use Rattle.edit_session.proofs.TransposeLemmas.{turned_within}

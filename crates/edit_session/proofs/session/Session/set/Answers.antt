@@ -5,9 +5,9 @@ use Rattle.bip_defs.specs.Matching.{cols_of, rows_of}
 use Rattle.bip_defs.specs.Matrix.{IsEntry, Matrix, Place, cols, entry_count, transpose}
 use Rattle.bip_defs.proofs.EditLemmas.{with_place_new, without_goes_back}
 use Rattle.bip_graph.specs.Matching.{IsMatchingOf}
-use Rattle.hall_witness.specs.Back.{IsSearchedTo}
-use Rattle.hall_witness.specs.Covers.{IsCovered, IsSearchedFrom}
-use Rattle.hall_witness.specs.Over.{IsSearchedOver}
+use Rattle.vertex_cover.specs.Back.{IsSearchedTo}
+use Rattle.vertex_cover.specs.Covers.{IsCovered, IsSearchedFrom}
+use Rattle.vertex_cover.specs.Over.{IsSearchedOver}
 use Rattle.sp_ids.specs.Limits.{max_entries}
 use Rattle.edit_session.specs.Sessions.{IsSaturating, IsPaired, MatchedMatrix}
 use Rattle.edit_session.proofs.SessionLemmas.{room_left, set_again, set_cover, set_matching, set_rows, set_saturating, turned_room_left}
