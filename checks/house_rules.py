@@ -18,7 +18,7 @@ import rattle_source as source  # noqa: E402
 
 # The most findings of a rule: lower the number where findings go.
 AT_MOST = {
-    "contract above ten lines": 108,
+    "contract above ten lines": 99,
     "more than five arguments": 32,
     "clause wider than 100 columns": 1,
     "statement stands twice": 33,
