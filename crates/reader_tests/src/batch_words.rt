@@ -54,25 +54,38 @@ fn is_read(alloc: Global, line: &str, wanted: Result<u32, WordsError>) -> bool {
     }
 }
 
+/// Whether the words of each line are taken.
+fn are_taken(alloc: Global, lines: &[(&str, u32)]) -> bool {
+    for (line, workers) in lines {
+        if !is_read(alloc, line, Ok(*workers)) {
+            return false;
+        }
+    }
+    true
+}
+
 #[test]
 fn takes_a_number_of_workers_or_nothing(rt: HostRuntime) {
     assert!(rt; are_read(rt.alloc(), &[], Ok(4)));
-    for (line, workers) in &TAKEN {
-        assert!(rt; is_read(rt.alloc(), line, Ok(*workers)), "{line}");
+    assert!(rt; are_taken(rt.alloc(), &TAKEN));
+}
+
+/// Whether the words of each line are refused.
+fn are_refused(alloc: Global, lines: &[&str]) -> bool {
+    for line in lines {
+        if !is_read(alloc, line, Err(WordsError::Usage)) {
+            return false;
+        }
     }
+    true
 }
 
 #[test]
 fn refuses_other_words(rt: HostRuntime) {
-    for line in &OTHER_WORDS {
-        assert!(rt; is_read(rt.alloc(), line, Err(WordsError::Usage)), "{line}");
-    }
+    assert!(rt; are_refused(rt.alloc(), &OTHER_WORDS));
 }
 
 #[test]
 fn tells_how_it_is_called(rt: HostRuntime) {
-    assert_eq!(rt;
-        batch_usage_line(),
-        "btf_batch: usage: btf_batch [--workers W]\n"
-    );
+    assert!(rt; batch_usage_line() == "btf_batch: usage: btf_batch [--workers W]\n");
 }

@@ -7,7 +7,6 @@ use mm_reader::Input;
 use sp_ids::OutOfMemory;
 use sp_ports::MemSource;
 use std::alloc::Global;
-use std::test::Fail;
 
 /// The files of a source, where the input may use so many bytes.
 fn read_from(
@@ -73,11 +72,19 @@ fn has_files(alloc: Global, bytes: &[u8], limit: u64, wanted: &[&[u8]]) -> bool 
     true
 }
 
+/// Whether each of these batches has its files.
+fn have_files(alloc: Global, batches: &[(&[u8], u64, &[&[u8]])]) -> bool {
+    for (bytes, limit, wanted) in batches {
+        if !has_files(alloc, bytes, *limit, wanted) {
+            return false;
+        }
+    }
+    true
+}
+
 #[test]
 fn files_are_read(rt: HostRuntime) {
-    for (bytes, limit, wanted) in &GOOD {
-        assert!(rt; has_files(rt.alloc(), bytes, *limit, wanted));
-    }
+    assert!(rt; have_files(rt.alloc(), &GOOD));
 }
 
 /// Batches that are refused, the bytes that the input may use, and why.
@@ -128,27 +135,39 @@ fn is_bad_in_pieces(alloc: Global, bytes: &[u8], limit: u64, error: BatchError) 
     true
 }
 
-#[test]
-fn bad_frames_are_known(rt: HostRuntime) {
-    for (bytes, limit, error) in &BAD {
-        assert!(rt; is_bad_in_pieces(rt.alloc(), bytes, *limit, *error));
+/// Whether each of these batches is.
+fn are_bad(alloc: Global, batches: &[(&[u8], u64, BatchError)]) -> bool {
+    for (bytes, limit, error) in batches {
+        if !is_bad_in_pieces(alloc, bytes, *limit, *error) {
+            return false;
+        }
     }
+    true
 }
 
-/// The frames of as many empty files as a batch may have.
-fn most_frames(alloc: Global) -> Result<Vec<u8>, OutOfMemory> {
+#[test]
+fn bad_frames_are_known(rt: HostRuntime) {
+    assert!(rt; are_bad(rt.alloc(), &BAD));
+}
+
+/// The frames of as many empty files as a batch may have, and what follows them.
+fn most_frames(alloc: Global, last: &[u8]) -> Result<Vec<u8>, OutOfMemory> {
     let mut bytes = Vec::new(alloc);
     for _ in 0..65536 {
         bytes.extend_from_slice(b"file 0\n")?;
     }
+    bytes.extend_from_slice(last)?;
     Ok(bytes)
 }
 
-/// Whether a batch has so many files.
-fn has_count(alloc: Global, bytes: &[u8], count: usize) -> bool {
-    match files(alloc, bytes, 4096, 500000) {
+/// Whether as many files are read as a batch may have.
+fn most_are_read(alloc: Global) -> bool {
+    match most_frames(alloc, b"") {
         Err(_) => false,
-        Ok(found) => found.len() == count,
+        Ok(bytes) => match files(alloc, bytes.as_slice(), 4096, 500000) {
+            Err(_) => false,
+            Ok(found) => found.len() == 65536,
+        },
     }
 }
 
@@ -158,14 +177,18 @@ const ONE_MORE: BatchError = BatchError::Limit {
     kind: Kind::Files,
 };
 
-// A file too many is told before its bytes are too many.
+/// Whether a file more is told before its bytes are too many.
+fn one_more_is_told(alloc: Global) -> bool {
+    match most_frames(alloc, b"file 1073741825\n") {
+        Err(_) => false,
+        Ok(bytes) => is_refused(files(alloc, bytes.as_slice(), 4096, 500000), ONE_MORE),
+    }
+}
+
 #[test]
-fn files_are_limited_in_number(rt: HostRuntime) -> Result<(), Fail> {
-    let mut bytes = most_frames(rt.alloc())?;
-    assert!(rt; has_count(rt.alloc(), bytes.as_slice(), 65536));
-    bytes.extend_from_slice(b"file 1073741825\n")?;
-    assert!(rt; is_refused(files(rt.alloc(), bytes.as_slice(), 4096, 500000), ONE_MORE));
-    Ok(())
+fn files_are_limited_in_number(rt: HostRuntime) {
+    assert!(rt; most_are_read(rt.alloc()));
+    assert!(rt; one_more_is_told(rt.alloc()));
 }
 
 /// Batches that come in pieces of seven bytes, the call that fails, and what is told: a bad frame
@@ -189,9 +212,17 @@ fn is_told(alloc: Global, bytes: &[u8], call: u64, error: BatchError) -> bool {
     }
 }
 
+/// Whether each of these batches is.
+fn are_told(alloc: Global, batches: &[(&[u8], u64, BatchError)]) -> bool {
+    for (bytes, call, error) in batches {
+        if !is_told(alloc, bytes, *call, *error) {
+            return false;
+        }
+    }
+    true
+}
+
 #[test]
 fn failed_reads_are_told(rt: HostRuntime) {
-    for (bytes, call, error) in &FAILED {
-        assert!(rt; is_told(rt.alloc(), bytes, *call, *error));
-    }
+    assert!(rt; are_told(rt.alloc(), &FAILED));
 }

@@ -1,9 +1,11 @@
 //! Sources and sinks in memory, called by the bounds of their traits.
 
+use crate::files::source_of;
+use sp_ids::OutOfMemory;
 use sp_ports::{
     Failed, LentSource, MemSink, MemSource, Sink, Source, SteadySink, SteadySource, write_all,
 };
-use std::test::Fail;
+use std::alloc::Global;
 
 fn read_by_bound<S: Source>(source: &mut S, buf: &mut [u8]) -> Result<usize, Failed> {
     source.read(buf)
@@ -34,12 +36,17 @@ fn gives_in_turn(source: &mut MemSource) -> bool {
     true
 }
 
+/// Whether a source of eight bytes in pieces of three does, whose second call fails.
+fn eight_are_given(alloc: Global) -> bool {
+    match source_of(alloc, b"abcdefgh", 3, &[1]) {
+        Err(_) => false,
+        Ok(mut source) => gives_in_turn(&mut source),
+    }
+}
+
 #[test]
-fn pieces_and_a_failing_call(rt: HostRuntime) -> Result<(), Fail> {
-    let failing = [1].to_vec(rt.alloc())?;
-    let mut source = MemSource::new(b"abcdefgh".to_vec(rt.alloc())?, 3, failing);
-    assert!(rt; gives_in_turn(&mut source));
-    Ok(())
+fn pieces_and_a_failing_call(rt: HostRuntime) {
+    assert!(rt; eight_are_given(rt.alloc()));
 }
 
 /// Of calls of `read` with room for three bytes, how many come of five, and the buffer behind it.
@@ -56,12 +63,20 @@ fn gives_threes<S: Source>(source: &mut S) -> bool {
     true
 }
 
+/// Whether a steady source does, and gives nothing where there is no room.
+fn five_are_given(alloc: Global) -> bool {
+    match b"abcde".to_vec(alloc) {
+        Err(_) => false,
+        Ok(bytes) => {
+            let mut source = SteadySource::new(bytes, 4);
+            gives_threes(&mut source) && read_by_bound(&mut source, &mut []) == Ok(0)
+        }
+    }
+}
+
 #[test]
-fn steady_pieces(rt: HostRuntime) -> Result<(), Fail> {
-    let mut source = SteadySource::new(b"abcde".to_vec(rt.alloc())?, 4);
-    assert!(rt; gives_threes(&mut source));
-    assert!(rt; read_by_bound(&mut source, &mut []) == Ok(0));
-    Ok(())
+fn steady_pieces(rt: HostRuntime) {
+    assert!(rt; five_are_given(rt.alloc()));
 }
 
 #[test]
@@ -99,12 +114,22 @@ fn takes_in_turn(sink: &mut MemSink) -> bool {
     takes(sink, &WRITES) && sink.bytes() == b"abc".as_slice() && sink.failed_calls() == 2
 }
 
+fn sink_of(alloc: Global, room: usize, failing: &[u64]) -> Result<MemSink, OutOfMemory> {
+    let failing = failing.to_vec(alloc)?;
+    MemSink::new(alloc, room, 2, failing)
+}
+
+/// Whether one that is made for it does.
+fn three_are_taken(alloc: Global) -> bool {
+    match sink_of(alloc, 3, &[1]) {
+        Err(_) => false,
+        Ok(mut sink) => takes_in_turn(&mut sink),
+    }
+}
+
 #[test]
-fn room_pieces_and_failing_calls(rt: HostRuntime) -> Result<(), Fail> {
-    let failing = [1].to_vec(rt.alloc())?;
-    let mut sink = MemSink::new(rt.alloc(), 3, 2, failing)?;
-    assert!(rt; takes_in_turn(&mut sink));
-    Ok(())
+fn room_pieces_and_failing_calls(rt: HostRuntime) {
+    assert!(rt; three_are_taken(rt.alloc()));
 }
 
 static STEADY_WRITES: [(&[u8], Result<usize, Failed>); 3] = [
@@ -118,11 +143,17 @@ fn takes_steadily(sink: &mut SteadySink) -> bool {
     takes(sink, &STEADY_WRITES) && sink.bytes() == b"abc".as_slice()
 }
 
+/// Whether one with room for three bytes does.
+fn three_are_taken_steadily(alloc: Global) -> bool {
+    match SteadySink::new(alloc, 3, 2) {
+        Err(_) => false,
+        Ok(mut sink) => takes_steadily(&mut sink),
+    }
+}
+
 #[test]
-fn a_steady_sink_drops_what_it_has_no_room_for(rt: HostRuntime) -> Result<(), Fail> {
-    let mut sink = SteadySink::new(rt.alloc(), 3, 2)?;
-    assert!(rt; takes_steadily(&mut sink));
-    Ok(())
+fn a_steady_sink_drops_what_it_has_no_room_for(rt: HostRuntime) {
+    assert!(rt; three_are_taken_steadily(rt.alloc()));
 }
 
 /// Whether all is written to a sink with room for seven bytes, and nothing behind it, which needs
@@ -134,9 +165,15 @@ fn takes_all(sink: &mut MemSink) -> bool {
         && sink.failed_calls() == 0
 }
 
+/// Whether it is to one that is made for it.
+fn seven_are_taken(alloc: Global) -> bool {
+    match sink_of(alloc, 7, &[]) {
+        Err(_) => false,
+        Ok(mut sink) => takes_all(&mut sink),
+    }
+}
+
 #[test]
-fn all_is_written_in_pieces(rt: HostRuntime) -> Result<(), Fail> {
-    let mut sink = MemSink::new(rt.alloc(), 7, 2, Vec::new(rt.alloc()))?;
-    assert!(rt; takes_all(&mut sink));
-    Ok(())
+fn all_is_written_in_pieces(rt: HostRuntime) {
+    assert!(rt; seven_are_taken(rt.alloc()));
 }

@@ -5,7 +5,6 @@ use mm_reader::{Input, next_byte, read_matrix, read_rest};
 use sp_ids::{Col, Field, OutOfMemory, Row, Triples};
 use sp_ports::{Failed, MemSource, Source};
 use std::alloc::Global;
-use std::test::Fail;
 
 /// One entry, in 59 bytes.
 const SMALLEST: &[u8] = b"%%MatrixMarket matrix coordinate pattern general\n1 1 1\n1 1\n";
@@ -326,11 +325,19 @@ fn is_read_in_pieces(alloc: Global, example: &Example) -> bool {
     true
 }
 
+/// Whether that holds of each of these examples.
+fn are_read(alloc: Global, examples: &[Example]) -> bool {
+    for example in examples {
+        if !is_read_in_pieces(alloc, example) {
+            return false;
+        }
+    }
+    true
+}
+
 #[test]
 fn pieces_change_nothing(rt: HostRuntime) {
-    for example in &GOOD {
-        assert!(rt; is_read_in_pieces(rt.alloc(), example));
-    }
+    assert!(rt; are_read(rt.alloc(), &GOOD));
 }
 
 /// Whether a matrix was refused for this.
@@ -351,11 +358,19 @@ fn is_bad_in_pieces(alloc: Global, file: &[u8], error: ReadError) -> bool {
     true
 }
 
+/// Whether each of these files is.
+fn are_bad(alloc: Global, files: &[(&[u8], ReadError)]) -> bool {
+    for (file, error) in files {
+        if !is_bad_in_pieces(alloc, file, *error) {
+            return false;
+        }
+    }
+    true
+}
+
 #[test]
 fn the_first_bad_line_is_reported(rt: HostRuntime) {
-    for (file, error) in &BAD {
-        assert!(rt; is_bad_in_pieces(rt.alloc(), file, *error));
-    }
+    assert!(rt; are_bad(rt.alloc(), &BAD));
 }
 
 /// A source, where its matrix is to end and the bytes that the input may use; why the matrix is
@@ -424,12 +439,19 @@ fn has_one_entry(alloc: Global, bytes: &[u8], limit: u64) -> bool {
     }
 }
 
+/// Whether one more byte is past the limit, and all bytes are not.
+fn is_limited(alloc: Global) -> bool {
+    for reading in &PAST_THE_LIMIT {
+        if !goes(alloc, reading) {
+            return false;
+        }
+    }
+    has_one_entry(alloc, SMALLEST, 59)
+}
+
 #[test]
 fn the_limit_counts_bytes(rt: HostRuntime) {
-    for reading in &PAST_THE_LIMIT {
-        assert!(rt; goes(rt.alloc(), reading));
-    }
-    assert!(rt; has_one_entry(rt.alloc(), SMALLEST, 59));
+    assert!(rt; is_limited(rt.alloc()));
 }
 
 /// Whether of the 59 bytes in one piece 53 are taken where 52 may be used.
@@ -438,11 +460,17 @@ fn is_one_more(alloc: Global, source: &mut MemSource) -> bool {
     is_refused(answer, ReadError::TooLong) && source.read(&mut [0; 16]) == Ok(6)
 }
 
+/// Whether they are of a source that is made for it.
+fn one_more_is_taken(alloc: Global) -> bool {
+    match source_of(alloc, SMALLEST, 59, &[]) {
+        Err(_) => false,
+        Ok(mut source) => is_one_more(alloc, &mut source),
+    }
+}
+
 #[test]
-fn one_byte_past_the_limit_is_taken(rt: HostRuntime) -> Result<(), Fail> {
-    let mut source = source_of(rt.alloc(), SMALLEST, 59, &[])?;
-    assert!(rt; is_one_more(rt.alloc(), &mut source));
-    Ok(())
+fn one_byte_past_the_limit_is_taken(rt: HostRuntime) {
+    assert!(rt; one_more_is_taken(rt.alloc()));
 }
 
 /// A pattern file of one row and one column whose entry line these pieces make.
@@ -472,17 +500,25 @@ fn filled(alloc: Global, byte: u8, count: usize) -> Result<Vec<u8>, OutOfMemory>
     Ok(Vec::from_elem(alloc, byte, count)?)
 }
 
-/// Whether so many blanks may stand between two numbers, and so many zeros before each.
-fn may_be_long(alloc: Global, blanks: &[u8], zeros: &[u8]) -> bool {
-    is_entry(alloc, &[b"1", blanks, b"1", b"\n"]) && is_entry(alloc, &[zeros, b"1 ", zeros, b"1\n"])
+/// Whether so many blanks may stand between two numbers.
+fn blanks_may_be_many(alloc: Global) -> bool {
+    match filled(alloc, b' ', 70_000) {
+        Err(_) => false,
+        Ok(blanks) => is_entry(alloc, &[b"1", blanks.as_slice(), b"1", b"\n"]),
+    }
+}
+
+/// Whether so many zeros may stand before each.
+fn zeros_may_be_many(alloc: Global) -> bool {
+    match filled(alloc, b'0', 70_000) {
+        Err(_) => false,
+        Ok(zeros) => is_entry(alloc, &[zeros.as_slice(), b"1 ", zeros.as_slice(), b"1\n"]),
+    }
 }
 
 #[test]
-fn lines_may_be_longer_than_the_buffer(rt: HostRuntime) -> Result<(), Fail> {
-    let blanks = filled(rt.alloc(), b' ', 70_000)?;
-    let zeros = filled(rt.alloc(), b'0', 70_000)?;
-    assert!(rt; may_be_long(rt.alloc(), blanks.as_slice(), zeros.as_slice()));
-    Ok(())
+fn lines_may_be_longer_than_the_buffer(rt: HostRuntime) {
+    assert!(rt; blanks_may_be_many(rt.alloc()) && zeros_may_be_many(rt.alloc()));
 }
 
 #[rattlefmt::skip]
@@ -533,11 +569,19 @@ fn has_rest(alloc: Global, file: &[u8], rest: &[u8]) -> bool {
     true
 }
 
+/// Whether they are what follows each of these files.
+fn have_rest(alloc: Global, files: &[&[u8]], rest: &[u8]) -> bool {
+    for file in files {
+        if !has_rest(alloc, file, rest) {
+            return false;
+        }
+    }
+    true
+}
+
 #[test]
 fn the_rest_is_all_that_follows(rt: HostRuntime) {
-    for file in &FOLLOWED {
-        assert!(rt; has_rest(rt.alloc(), file, b"% c\nbtf 1\n"));
-    }
+    assert!(rt; have_rest(rt.alloc(), &FOLLOWED, b"% c\nbtf 1\n"));
 }
 
 /// The first 50 bytes have one LF, and the second call fails.
@@ -580,11 +624,19 @@ fn has_ended(alloc: Global, end: End, file: &[u8]) -> bool {
     }
 }
 
+/// Whether it does of each of these files.
+fn have_ended(alloc: Global, files: &[(End, &[u8])]) -> bool {
+    for (end, file) in files {
+        if !has_ended(alloc, *end, file) {
+            return false;
+        }
+    }
+    true
+}
+
 #[test]
 fn nothing_is_asked_behind_the_end(rt: HostRuntime) {
-    for (end, file) in &ENDED {
-        assert!(rt; has_ended(rt.alloc(), *end, file));
-    }
+    assert!(rt; have_ended(rt.alloc(), &ENDED));
 }
 
 /// Whether a source has more than four bytes, and its next call fails.
@@ -598,12 +650,18 @@ fn is_past_four(alloc: Global, source: &mut MemSource) -> bool {
     }
 }
 
-// The second call gives the byte past the limit, and the third would fail.
+/// Whether that holds of a source whose second call gives the byte past the limit, and whose third
+/// would fail.
+fn stops_past_four(alloc: Global) -> bool {
+    match source_of(alloc, b"btf 1\n", 100, &[2]) {
+        Err(_) => false,
+        Ok(mut source) => is_past_four(alloc, &mut source),
+    }
+}
+
 #[test]
-fn the_rest_asks_no_more_past_the_limit(rt: HostRuntime) -> Result<(), Fail> {
-    let mut source = source_of(rt.alloc(), b"btf 1\n", 100, &[2])?;
-    assert!(rt; is_past_four(rt.alloc(), &mut source));
-    Ok(())
+fn the_rest_asks_no_more_past_the_limit(rt: HostRuntime) {
+    assert!(rt; stops_past_four(rt.alloc()));
 }
 
 /// Whether a line end comes and then nothing, by calls that do not fail.
@@ -625,12 +683,17 @@ fn is_one_byte(alloc: Global, source: &mut MemSource) -> bool {
         && source.failed_calls() == 0
 }
 
-// The second call gives no bytes, and the third would fail.
+/// Whether they do from a source whose second call gives no bytes, and whose third would fail.
+fn one_byte_comes(alloc: Global) -> bool {
+    match source_of(alloc, b"\n", 2, &[2]) {
+        Err(_) => false,
+        Ok(mut source) => is_one_byte(alloc, &mut source),
+    }
+}
+
 #[test]
-fn bytes_come_one_by_one(rt: HostRuntime) -> Result<(), Fail> {
-    let mut source = source_of(rt.alloc(), b"\n", 2, &[2])?;
-    assert!(rt; is_one_byte(rt.alloc(), &mut source));
-    Ok(())
+fn bytes_come_one_by_one(rt: HostRuntime) {
+    assert!(rt; one_byte_comes(rt.alloc()));
 }
 
 /// A source of `ab` in pieces of so many bytes, with a call that fails; the bytes that the input
@@ -673,9 +736,17 @@ fn has_one_byte(alloc: Global, second: &Second) -> bool {
     }
 }
 
+/// Whether it is in each of these cases.
+fn have_one_byte(alloc: Global, seconds: &[Second]) -> bool {
+    for second in seconds {
+        if !has_one_byte(alloc, second) {
+            return false;
+        }
+    }
+    true
+}
+
 #[test]
 fn a_next_byte_is_refused(rt: HostRuntime) {
-    for second in &SECONDS {
-        assert!(rt; has_one_byte(rt.alloc(), second));
-    }
+    assert!(rt; have_one_byte(rt.alloc(), &SECONDS));
 }

@@ -5,7 +5,7 @@ use crate::runs::{
     all_go, outcome_on,
 };
 use sp_ids::Status;
-use std::test::Fail;
+use std::thread::Threads;
 
 /// A report of the first version.
 const REPORT: Run = Run {
@@ -138,12 +138,18 @@ fn ends_with_pairs(found: &Outcome) -> bool {
     found.is_answer(Status::Ok) && has_end(found.text(), &PAIRS)
 }
 
-#[test]
-fn pairs(rt: HostRuntime) -> Result<(), Fail> {
+/// Whether the report of the matrix with all three parts does.
+fn has_pairs<R: Threads + AllocGlobal + Sync>(rt: &R) -> bool {
     let words = ["analyse --pairs --report 1"];
-    let found = outcome_on(&rt, &words, &[BANNER, THREE_PARTS], &STEADY)?;
-    assert!(rt; ends_with_pairs(&found));
-    Ok(())
+    match outcome_on(rt, &words, &[BANNER, THREE_PARTS], &STEADY) {
+        Err(_) => false,
+        Ok(found) => ends_with_pairs(&found),
+    }
+}
+
+#[test]
+fn pairs(rt: HostRuntime) {
+    assert!(rt; has_pairs(&rt));
 }
 
 #[rattlefmt::skip]

@@ -15,7 +15,6 @@ use mm_defs::Kind;
 use sp_ids::OutOfMemory;
 use sp_ports::NoGate;
 use std::alloc::Global;
-use std::test::Fail;
 use std::thread::Threads;
 
 // What the tests look at in an answer.
@@ -140,7 +139,7 @@ fn second_has_all<R: Threads + Sync>(
     board: &ClaimBoard,
     zero: ClaimSeat,
     one: ClaimSeat,
-) -> Result<bool, OutOfMemory>
+) -> bool
     requires files { IsWithinLimits (files_of files.now) }
     requires count { length files.now ≡ 4 }
     requires rows { length board.now.rows ≡ 4 }
@@ -150,19 +149,29 @@ fn second_has_all<R: Threads + Sync>(
 {
     let mut first = Share::new(alloc, files, zero);
     let mut second = Share::new(alloc, files, one);
-    second.work(rt, board, &NoGate, 1)?;
-    first.work(rt, board, &NoGate, 0)?;
+    let worked = (
+        second.work(rt, board, &NoGate, 1),
+        first.work(rt, board, &NoGate, 0),
+    );
     let (_seat, none) = first.into_parts();
     let (_seat, all) = second.into_parts();
-    Ok(none.is_empty() && are_for_all_files(all.as_slice()))
+    worked == (Ok(()), Ok(())) && none.is_empty() && are_for_all_files(all.as_slice())
+}
+
+// Whether it does at a board for the four files.
+fn one_worker_claims<R: Threads + Sync>(rt: &R, alloc: Global) -> bool {
+    let Ok(files) = batch(alloc) else {
+        return false;
+    };
+    match board_for_two(alloc) {
+        Err(_) => false,
+        Ok((board, zero, one)) => { second_has_all(rt, alloc, files.as_slice(), &board, zero, one) }
+    }
 }
 
 #[test]
-fn a_file_is_claimed_by_one_worker(rt: HostRuntime) -> Result<(), Fail> {
-    let files = batch(rt.alloc())?;
-    let (board, zero, one) = board_for_two(rt.alloc())?;
-    assert!(rt; second_has_all(&rt, rt.alloc(), files.as_slice(), &board, zero, one)?);
-    Ok(())
+fn a_file_is_claimed_by_one_worker(rt: HostRuntime) {
+    assert!(rt; one_worker_claims(&rt, rt.alloc()));
 }
 
 // The answer to one of the files.
@@ -204,25 +213,25 @@ fn keeps_the_first(answers: &mut Answers<'_>, bad: FileAnswer, again: FileAnswer
 }
 
 // Whether that holds of answers to the four files.
-fn keeps_the_first_of<R: Threads + Sync>(
-    rt: &R,
-    alloc: Global,
-    files: &[Vec<u8>],
-) -> Result<bool, OutOfMemory>
-    requires within { IsWithinLimits (files_of files.now) }
-    requires count { length files.now ≡ 4 }
-{
-    let bad = answer_of(rt, alloc, files, 1)?;
-    let again = answer_of(rt, alloc, files, 1)?;
-    let mut answers = Answers::new(alloc, files)?;
-    Ok(keeps_the_first(&mut answers, bad, again))
+fn first_is_kept<R: Threads + Sync>(rt: &R, alloc: Global) -> bool {
+    let Ok(files) = batch(alloc) else {
+        return false;
+    };
+    let Ok(bad) = answer_of(rt, alloc, files.as_slice(), 1) else {
+        return false;
+    };
+    let Ok(again) = answer_of(rt, alloc, files.as_slice(), 1) else {
+        return false;
+    };
+    match Answers::new(alloc, files.as_slice()) {
+        Err(_) => false,
+        Ok(mut answers) => keeps_the_first(&mut answers, bad, again),
+    }
 }
 
 #[test]
-fn a_full_slot_keeps_what_it_has(rt: HostRuntime) -> Result<(), Fail> {
-    let files = batch(rt.alloc())?;
-    assert!(rt; keeps_the_first_of(&rt, rt.alloc(), files.as_slice())?);
-    Ok(())
+fn a_full_slot_keeps_what_it_has(rt: HostRuntime) {
+    assert!(rt; first_is_kept(&rt, rt.alloc()));
 }
 
 // Whether the answers are those that are to be found.
@@ -238,60 +247,51 @@ fn are_all_found(answers: &Answers<'_>) -> bool
 }
 
 // Whether an answer goes into its slot, and the rest is filled then.
-fn fills_the_rest<R: Threads + Sync>(
-    rt: &R,
-    answers: &mut Answers<'_>,
-    large: FileAnswer,
-) -> Result<bool, OutOfMemory>
+fn fills_the_rest<R: Threads + Sync>(rt: &R, answers: &mut Answers<'_>, large: FileAnswer) -> bool
     requires count { length answers.old.files ≡ 4 }
     requires large { IsAnswerAt answers.old.files 2 large }
 {
     let put = answers.put(2, large);
-    answers.fill_rest(rt)?;
-    Ok(put == Put::Stored && are_all_found(answers))
+    let filled = answers.fill_rest(rt);
+    put == Put::Stored && filled == Ok(()) && are_all_found(answers)
 }
 
-// Whether that holds of the four files.
-fn fills_the_rest_of<R: Threads + Sync>(
-    rt: &R,
-    alloc: Global,
-    files: &[Vec<u8>],
-) -> Result<bool, OutOfMemory>
-    requires within { IsWithinLimits (files_of files.now) }
-    requires count { length files.now ≡ 4 }
-{
-    let large = answer_of(rt, alloc, files, 2)?;
-    let mut answers = Answers::new(alloc, files)?;
-    fills_the_rest(rt, &mut answers, large)
-}
-
-#[test]
-fn the_rest_is_filled(rt: HostRuntime) -> Result<(), Fail> {
-    let files = batch(rt.alloc())?;
-    assert!(rt; fills_the_rest_of(&rt, rt.alloc(), files.as_slice())?);
-    Ok(())
-}
-
-// Whether so many workers find what is to be found.
-fn workers_find_all<R: Threads + Sync>(
-    rt: &R,
-    alloc: Global,
-    workers: u32,
-) -> Result<bool, OutOfMemory>
-    requires some { 1 ≤ workers }
-    requires few { workers ≤ max_workers }
-{
-    let files = batch(alloc)?;
-    match answer_all(rt, alloc, files.as_slice(), workers, &NoGate) {
-        Err(error) => Err(error),
-        Ok(answers) => Ok(are_all_found(&answers)),
+// Whether that holds of the answer to the third of the four files.
+fn rest_is_filled<R: Threads + Sync>(rt: &R, alloc: Global) -> bool {
+    let Ok(files) = batch(alloc) else {
+        return false;
+    };
+    let Ok(large) = answer_of(rt, alloc, files.as_slice(), 2) else {
+        return false;
+    };
+    match Answers::new(alloc, files.as_slice()) {
+        Err(_) => false,
+        Ok(mut answers) => fills_the_rest(rt, &mut answers, large),
     }
 }
 
 #[test]
-fn any_number_of_workers_finds_the_same(rt: HostRuntime) -> Result<(), Fail> {
-    assert!(rt; workers_find_all(&rt, rt.alloc(), 1)?);
-    assert!(rt; workers_find_all(&rt, rt.alloc(), 2)?);
-    assert!(rt; workers_find_all(&rt, rt.alloc(), 64)?);
-    Ok(())
+fn the_rest_is_filled(rt: HostRuntime) {
+    assert!(rt; rest_is_filled(&rt, rt.alloc()));
+}
+
+// Whether so many workers find what is to be found.
+fn workers_find_all<R: Threads + Sync>(rt: &R, alloc: Global, workers: u32) -> bool
+    requires some { 1 ≤ workers }
+    requires few { workers ≤ max_workers }
+{
+    let Ok(files) = batch(alloc) else {
+        return false;
+    };
+    match answer_all(rt, alloc, files.as_slice(), workers, &NoGate) {
+        Err(_) => false,
+        Ok(answers) => are_all_found(&answers),
+    }
+}
+
+#[test]
+fn any_number_of_workers_finds_the_same(rt: HostRuntime) {
+    assert!(rt; workers_find_all(&rt, rt.alloc(), 1));
+    assert!(rt; workers_find_all(&rt, rt.alloc(), 2));
+    assert!(rt; workers_find_all(&rt, rt.alloc(), 64));
 }

@@ -4,7 +4,6 @@ use crate::runs::{ANSWERED, Devices, InMemory, Run, STEADY, joined, words_of};
 use batch_core::run_batch;
 use sp_ids::{OutOfMemory, Status};
 use sp_ports::{Gate, MeetGate, NoGate};
-use std::test::Fail;
 use std::thread::Threads;
 use test_gates::BarrierGate;
 
@@ -143,11 +142,19 @@ static RUNS: [Run; 8] = [
     },
 ];
 
+/// Whether each of these rows goes as it is to go.
+fn all_go<R: Threads + AllocGlobal + Sync>(rt: &R, runs: &[Run]) -> bool {
+    for run in runs {
+        if !goes(rt, run) {
+            return false;
+        }
+    }
+    true
+}
+
 #[test]
 fn runs_on_steady_devices(rt: HostRuntime) {
-    for run in &RUNS {
-        assert!(rt; goes(&rt, run));
-    }
+    assert!(rt; all_go(&rt, &RUNS));
 }
 
 /// A read that fails; writes that fail, where the text is taken in two pieces for the first file,
@@ -186,9 +193,7 @@ static FAULTS: [Run; 5] = [
 
 #[test]
 fn runs_on_failing_devices(rt: HostRuntime) {
-    for run in &FAULTS {
-        assert!(rt; goes(&rt, run));
-    }
+    assert!(rt; all_go(&rt, &FAULTS));
 }
 
 /// The good and the bad file, over sinks that take pieces of 10.
@@ -202,28 +207,32 @@ fn have_met(gate: &MeetGate) -> bool {
     (gate.arrivals(0), gate.arrivals(1)) == (1, 1) && !gate.ran_out()
 }
 
+/// Whether that holds of two workers who answer the two files.
+fn two_meet<R: Threads + AllocGlobal + Sync>(rt: &R) -> bool {
+    match MeetGate::new(rt.alloc()) {
+        Err(_) => false,
+        Ok(gate) => comes(rt, "--workers 2", &TENS, &gate) && have_met(&gate),
+    }
+}
+
 #[test]
-fn two_workers_meet(rt: HostRuntime) -> Result<(), Fail> {
-    let gate = MeetGate::new(rt.alloc())?;
-    assert!(rt; comes(&rt, "--workers 2", &TENS, &gate));
-    assert!(rt; have_met(&gate));
-    Ok(())
+fn two_workers_meet(rt: HostRuntime) {
+    assert!(rt; two_meet(&rt));
 }
 
 /// Whether so many workers answer the two files, and no worker looks at a file before all have come.
-fn wait_for_each_other<R: Threads + AllocGlobal + Sync>(
-    rt: &R,
-    words: &str,
-    workers: u32,
-) -> Result<bool, OutOfMemory> {
-    let gate = BarrierGate::new(rt.alloc(), workers)?;
-    Ok(comes(rt, words, &TENS, &gate) && gate.have_arrived(workers, 1) && !gate.ran_out())
+fn wait_for_each_other<R: Threads + AllocGlobal + Sync>(rt: &R, words: &str, workers: u32) -> bool {
+    match BarrierGate::new(rt.alloc(), workers) {
+        Err(_) => false,
+        Ok(gate) => {
+            comes(rt, words, &TENS, &gate) && gate.have_arrived(workers, 1) && !gate.ran_out()
+        }
+    }
 }
 
 #[test]
-fn workers_wait_for_each_other(rt: HostRuntime) -> Result<(), Fail> {
-    assert!(rt; wait_for_each_other(&rt, "--workers 1", 1)?);
-    assert!(rt; wait_for_each_other(&rt, "--workers 2", 2)?);
-    assert!(rt; wait_for_each_other(&rt, "--workers 5", 5)?);
-    Ok(())
+fn workers_wait_for_each_other(rt: HostRuntime) {
+    assert!(rt; wait_for_each_other(&rt, "--workers 1", 1));
+    assert!(rt; wait_for_each_other(&rt, "--workers 2", 2));
+    assert!(rt; wait_for_each_other(&rt, "--workers 5", 5));
 }

@@ -7,7 +7,6 @@ use crate::runs::{
 use sp_ids::{OutOfMemory, Status};
 use sp_ports::{Failed, Source};
 use std::alloc::Global;
-use std::test::Fail;
 use std::thread::Threads;
 
 /// The report of the matrix with all three parts, up to its pairs.
@@ -108,11 +107,17 @@ fn is_not_asked(found: &mut Outcome) -> bool {
         && found.devices.input.read(&mut [0u8; 16]) == Err(Failed)
 }
 
+/// Whether that holds of a run on it.
+fn ended_is_not_asked<R: Threads + AllocGlobal + Sync>(rt: &R) -> bool {
+    match outcome_on(rt, &["check"], &[BANNER, b"1 1 1\n1 1"], &ENDING) {
+        Err(_) => false,
+        Ok(mut found) => is_not_asked(&mut found),
+    }
+}
+
 #[test]
-fn an_input_that_has_ended_is_not_asked_again(rt: HostRuntime) -> Result<(), Fail> {
-    let mut found = outcome_on(&rt, &["check"], &[BANNER, b"1 1 1\n1 1"], &ENDING)?;
-    assert!(rt; is_not_asked(&mut found));
-    Ok(())
+fn an_input_that_has_ended_is_not_asked_again(rt: HostRuntime) {
+    assert!(rt; ended_is_not_asked(&rt));
 }
 
 /// A text without one of its lines, which count from 0.
@@ -196,16 +201,22 @@ static WITH_PAIRS: [&str; 4] = [
     "analyse --pairs --order --report 1",
 ];
 
-/// Whether each of them is one of the file.
-fn has_reports<R: Threads + AllocGlobal + Sync>(rt: &R, file: &[u8]) -> bool {
+/// Whether what these words answer on a file is its report.
+fn has_report<R: Threads + AllocGlobal + Sync>(rt: &R, words: &str, file: &[u8]) -> bool {
+    match outcome_of(rt, &[words], file, &STEADY) {
+        Err(_) => false,
+        Ok(found) => is_report(rt, file, &found),
+    }
+}
+
+/// Whether that holds of each of them on the file with these lines.
+fn has_reports<R: Threads + AllocGlobal + Sync>(rt: &R, lines: &[u8]) -> bool {
+    let Ok(file) = joined(rt.alloc(), &[BANNER, lines]) else {
+        return false;
+    };
     for words in &WITH_PAIRS {
-        match outcome_of(rt, &[words], file, &STEADY) {
-            Err(_) => return false,
-            Ok(found) => {
-                if !is_report(rt, file, &found) {
-                    return false;
-                }
-            }
+        if !has_report(rt, words, file.as_slice()) {
+            return false;
         }
     }
     true
@@ -224,13 +235,19 @@ static FILES: [&[u8]; 9] = [
     THREE_PARTS_EXAMPLE,
 ];
 
-#[test]
-fn reports_are_valid(rt: HostRuntime) -> Result<(), Fail> {
-    for lines in &FILES {
-        let file = joined(rt.alloc(), &[BANNER, lines])?;
-        assert!(rt; has_reports(&rt, file.as_slice()));
+/// Whether it holds of each of these files.
+fn have_reports<R: Threads + AllocGlobal + Sync>(rt: &R, files: &[&[u8]]) -> bool {
+    for lines in files {
+        if !has_reports(rt, lines) {
+            return false;
+        }
     }
-    Ok(())
+    true
+}
+
+#[test]
+fn reports_are_valid(rt: HostRuntime) {
+    assert!(rt; have_reports(&rt, &FILES));
 }
 
 /// The lines of a report of one entry up to its rank.

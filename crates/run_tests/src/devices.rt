@@ -4,9 +4,8 @@ use crate::runs::{
     ANSWERED, Devices, INTEGERS, Outcome, Run, SMALLEST, SMALLEST_RANK, SMALLEST_REPORT, STEADY,
     all_go, outcome_of, run_over,
 };
-use sp_ids::{OutOfMemory, Status};
+use sp_ids::Status;
 use sp_ports::{NoGate, SteadySink, SteadySource};
-use std::test::Fail;
 use std::thread::Threads;
 
 /// Whether one read failed, and nothing was written but the line that tells it.
@@ -27,13 +26,21 @@ fn read_fails<R: Threads + AllocGlobal + Sync>(rt: &R, job: &str, call: u64) -> 
     }
 }
 
-// The 59 bytes come in six pieces, and call 6 tells the end.
+/// Whether a job tells it whichever read fails: the 59 bytes come in six pieces, and call 6 tells
+/// the end.
+fn each_read_fails<R: Threads + AllocGlobal + Sync>(rt: &R, job: &str) -> bool {
+    for call in 0u64..7 {
+        if !read_fails(rt, job, call) {
+            return false;
+        }
+    }
+    true
+}
+
 #[test]
 fn each_read_fails_in_turn(rt: HostRuntime) {
-    for call in 0u64..7 {
-        assert!(rt; read_fails(&rt, "rank", call));
-        assert!(rt; read_fails(&rt, "analyse", call));
-    }
+    assert!(rt; each_read_fails(&rt, "rank"));
+    assert!(rt; each_read_fails(&rt, "analyse"));
 }
 
 const BOTH: Run = Run {
@@ -117,11 +124,19 @@ fn write_fails<R: Threads + AllocGlobal + Sync>(rt: &R, call: u64, taken: usize)
     report_is_cut(rt, &devices, taken)
 }
 
+/// Whether it is cut so at each of these calls.
+fn each_write_fails<R: Threads + AllocGlobal + Sync>(rt: &R, writes: &[(u64, usize)]) -> bool {
+    for (call, taken) in writes {
+        if !write_fails(rt, *call, *taken) {
+            return false;
+        }
+    }
+    true
+}
+
 #[test]
 fn each_write_fails_in_turn(rt: HostRuntime) {
-    for (call, taken) in &WRITES {
-        assert!(rt; write_fails(&rt, *call, *taken));
-    }
+    assert!(rt; each_write_fails(&rt, &WRITES));
 }
 
 /// Devices with room for 50 bytes of an answer.
@@ -314,16 +329,10 @@ fn pieces_of_the_input_change_nothing(rt: HostRuntime) {
     assert!(rt; all_go(&rt, &PIECES));
 }
 
-/// A sink that does what is asked and counts nothing.
-fn steady_sink<R: AllocGlobal>(rt: &R) -> Result<SteadySink, OutOfMemory> {
-    SteadySink::new(rt.alloc(), 4096, 10)
-}
-
-/// Whether a run on a source with one entry writes this text to the first sink.
+/// Whether a run over one entry writes this text to the first of two sinks.
 fn writes<R: Threads + AllocGlobal + Sync>(
     rt: &R,
-    words: &str,
-    text: &[u8],
+    run: &Run,
     out: &mut SteadySink,
     err: &mut SteadySink,
 ) -> bool {
@@ -331,25 +340,37 @@ fn writes<R: Threads + AllocGlobal + Sync>(
         return false;
     };
     let mut input = SteadySource::new(bytes, 10);
-    run_over(rt, &[words], &mut input, out, err, &NoGate) == Ok(Status::Ok)
-        && out.bytes() == text
-        && err.bytes().is_empty()
+    run_over(rt, run.commands, &mut input, out, err, &NoGate) == Ok(run.status)
+        && out.bytes() == run.out
+        && err.bytes() == run.err
 }
 
-/// Runs over one entry, by devices that do what is asked and count nothing.
-fn steadily<R: Threads + AllocGlobal + Sync>(
-    rt: &R,
-    words: &str,
-    text: &[u8],
-) -> Result<bool, OutOfMemory> {
-    let mut out = steady_sink(rt)?;
-    let mut err = steady_sink(rt)?;
-    Ok(writes(rt, words, text, &mut out, &mut err))
+/// Whether it does to a first sink, by devices that do what is asked and count nothing.
+fn writes_to<R: Threads + AllocGlobal + Sync>(rt: &R, run: &Run, out: &mut SteadySink) -> bool {
+    match SteadySink::new(rt.alloc(), 4096, 10) {
+        Err(_) => false,
+        Ok(mut err) => writes(rt, run, out, &mut err),
+    }
 }
+
+/// Whether it does to sinks that are made for it.
+fn writes_steadily<R: Threads + AllocGlobal + Sync>(rt: &R, run: &Run) -> bool {
+    match SteadySink::new(rt.alloc(), 4096, 10) {
+        Err(_) => false,
+        Ok(mut out) => writes_to(rt, run, &mut out),
+    }
+}
+
+static RANK: Run = Run {
+    commands: &["rank"],
+    out: SMALLEST_RANK,
+    ..REPORT
+};
+
+static SAME_REPORT: Run = REPORT;
 
 #[test]
-fn steady_devices(rt: HostRuntime) -> Result<(), Fail> {
-    assert!(rt; steadily(&rt, "rank", SMALLEST_RANK)?);
-    assert!(rt; steadily(&rt, "analyse --report 1", SMALLEST_REPORT)?);
-    Ok(())
+fn steady_devices(rt: HostRuntime) {
+    assert!(rt; writes_steadily(&rt, &RANK));
+    assert!(rt; writes_steadily(&rt, &SAME_REPORT));
 }

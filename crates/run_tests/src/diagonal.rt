@@ -190,16 +190,30 @@ fn is_found<R: Threads + AllocGlobal + Sync>(rt: &R, example: &Example<'_>) -> b
     }
 }
 
+static EXAMPLES: [Example<'static>; 7] = [
+    FIVE_AND_FOUR,
+    SEVEN_BELOW_ZERO,
+    ZERO_AND_THREE,
+    FIVE_LESS_FIVE,
+    FIVE_AND_FOUR_IN_COLUMNS,
+    WEIGHTS,
+    TWICE_THE_GREATEST,
+];
+
+/// Whether it is what `diagonal` answers on each of these.
+fn all_are_found<R: Threads + AllocGlobal + Sync>(rt: &R, examples: &[Example<'_>]) -> bool {
+    for example in examples {
+        if !is_found(rt, example) {
+            return false;
+        }
+    }
+    true
+}
+
 // A diagonal and its prices.
 #[test]
 fn heaviest_diagonals(rt: HostRuntime) {
-    assert!(rt; is_found(&rt, &FIVE_AND_FOUR));
-    assert!(rt; is_found(&rt, &SEVEN_BELOW_ZERO));
-    assert!(rt; is_found(&rt, &ZERO_AND_THREE));
-    assert!(rt; is_found(&rt, &FIVE_LESS_FIVE));
-    assert!(rt; is_found(&rt, &FIVE_AND_FOUR_IN_COLUMNS));
-    assert!(rt; is_found(&rt, &WEIGHTS));
-    assert!(rt; is_found(&rt, &TWICE_THE_GREATEST));
+    assert!(rt; all_are_found(&rt, &EXAMPLES));
 }
 
 const DIAGONAL: Run = Run {

@@ -1,8 +1,7 @@
 //! Files that are refused.
 
-use crate::runs::{ANSWERED, BANNER, Run, STEADY, all_go, goes, outcome_of};
+use crate::runs::{ANSWERED, BANNER, Run, all_go, goes};
 use sp_ids::Status;
-use std::thread::Threads;
 
 /// Each job that reads a matrix to the end of the input refuses a file for the same line.
 const MALFORMED: Run = Run {
@@ -126,22 +125,16 @@ fn refused_files(rt: HostRuntime) {
     assert!(rt; all_go(&rt, &REFUSED));
 }
 
-/// Whether a job finds no banner in these bytes.
-fn finds_no_banner<R: Threads + AllocGlobal + Sync>(rt: &R, job: &str, bytes: &[u8]) -> bool {
-    let line = b"btf: malformed line 1: NoBanner\n";
-    match outcome_of(rt, &[job], bytes, &STEADY) {
-        Err(_) => false,
-        Ok(found) => found.is(Status::Malformed, b"", line),
-    }
-}
+/// No bytes at all, and the first bytes of a compressed file.
+#[rattlefmt::skip]
+static BYTES: [Run; 2] = [
+    Run { file: &[b""], err: b"btf: malformed line 1: NoBanner\n", ..MALFORMED },
+    Run { file: &[b"\x1f\x8b\x08"], err: b"btf: malformed line 1: NoBanner\n", ..MALFORMED },
+];
 
-// No bytes at all, and the first bytes of a compressed file.
 #[test]
 fn refused_bytes(rt: HostRuntime) {
-    for job in ["rank", "analyse", "diagonal"] {
-        assert!(rt; finds_no_banner(&rt, job, b""));
-        assert!(rt; finds_no_banner(&rt, job, b"\x1f\x8b\x08"));
-    }
+    assert!(rt; all_go(&rt, &BYTES));
 }
 
 const HUNDRED_DIGITS: &[u8] =

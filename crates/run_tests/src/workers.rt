@@ -2,10 +2,8 @@
 //! who is first.
 
 use crate::runs::{BANNER, InMemory, Outcome, STEADY, THREE_PARTS, joined, outcome_of, run_in};
-use sp_ids::{OutOfMemory, Status};
+use sp_ids::Status;
 use sp_ports::{Gate, MeetGate};
-use std::alloc::Global;
-use std::test::Fail;
 use std::thread::Threads;
 use test_gates::BarrierGate;
 
@@ -36,13 +34,18 @@ fn have_met(gate: &MeetGate) -> bool {
         && gate.arrivals(2) == 0
 }
 
-// Worker 0 waits at each of its arrivals until worker 1 has arrived as often.
+/// Whether that holds of two workers who search, where worker 0 waits at each of its arrivals until
+/// worker 1 has arrived as often.
+fn two_meet<R: Threads + AllocGlobal + Sync>(rt: &R) -> bool {
+    match MeetGate::new(rt.alloc()) {
+        Err(_) => false,
+        Ok(gate) => two_search_at(rt, &gate) && have_met(&gate),
+    }
+}
+
 #[test]
-fn two_workers_meet(rt: HostRuntime) -> Result<(), Fail> {
-    let gate = MeetGate::new(rt.alloc())?;
-    assert!(rt; two_search_at(&rt, &gate));
-    assert!(rt; have_met(&gate));
-    Ok(())
+fn two_workers_meet(rt: HostRuntime) {
+    assert!(rt; two_meet(&rt));
 }
 
 /// Whether both have arrived as often as each other, and neither has gone on alone.
@@ -50,13 +53,17 @@ fn have_waited(gate: &BarrierGate) -> bool {
     0 < gate.arrivals(0) && gate.have_arrived(2, gate.arrivals(0)) && !gate.ran_out()
 }
 
-// Each of the two waits for the other.
+/// Whether that holds of two workers who search, where each waits for the other.
+fn two_wait<R: Threads + AllocGlobal + Sync>(rt: &R) -> bool {
+    match BarrierGate::new(rt.alloc(), 2) {
+        Err(_) => false,
+        Ok(gate) => two_search_at(rt, &gate) && have_waited(&gate),
+    }
+}
+
 #[test]
-fn two_workers_wait_for_each_other(rt: HostRuntime) -> Result<(), Fail> {
-    let gate = BarrierGate::new(rt.alloc(), 2)?;
-    assert!(rt; two_search_at(&rt, &gate));
-    assert!(rt; have_waited(&gate));
-    Ok(())
+fn two_workers_wait_for_each_other(rt: HostRuntime) {
+    assert!(rt; two_wait(&rt));
 }
 
 /// Numbers of workers.
@@ -114,34 +121,46 @@ static FILES: [&[u8]; 5] = [
     THREE_PARTS,
 ];
 
-#[test]
-fn reports_of_small_matrices(rt: HostRuntime) -> Result<(), Fail> {
-    for lines in &FILES {
-        let file = joined(rt.alloc(), &[BANNER, lines])?;
-        assert!(rt; same_reports(&rt, file.as_slice()));
+/// Whether that holds of the file of places alone with these lines.
+fn has_same_reports<R: Threads + AllocGlobal + Sync>(rt: &R, lines: &[u8]) -> bool {
+    match joined(rt.alloc(), &[BANNER, lines]) {
+        Err(_) => false,
+        Ok(file) => same_reports(rt, file.as_slice()),
     }
-    Ok(())
+}
+
+/// Whether it holds of each of these.
+fn have_same_reports<R: Threads + AllocGlobal + Sync>(rt: &R, files: &[&[u8]]) -> bool {
+    for lines in files {
+        if !has_same_reports(rt, lines) {
+            return false;
+        }
+    }
+    true
+}
+
+#[test]
+fn reports_of_small_matrices(rt: HostRuntime) {
+    assert!(rt; have_same_reports(&rt, &FILES));
 }
 
 /// Thirty columns that all have entries in the same four rows.
-fn contested(alloc: Global) -> Result<String, OutOfMemory> {
-    let banner = "%%MatrixMarket matrix coordinate pattern general\n4 30 120\n";
-    let mut file = String::from_str(alloc, banner)?;
-    for col in 1..31u32 {
-        for row in 1..5u32 {
-            write!(file, "{row} {col}\n")?;
+const CONTESTED: &[u8] =
+    b"4 30 120\n1 1\n2 1\n3 1\n4 1\n1 2\n2 2\n3 2\n4 2\n1 3\n2 3\n3 3\n4 3\n1 4\n2 4\n3 4\n4 4\n1 5\n2 5\n3 5\n4 5\n1 6\n2 6\n3 6\n4 6\n1 7\n2 7\n3 7\n4 7\n1 8\n2 8\n3 8\n4 8\n1 9\n2 9\n3 9\n4 9\n1 10\n2 10\n3 10\n4 10\n1 11\n2 11\n3 11\n4 11\n1 12\n2 12\n3 12\n4 12\n1 13\n2 13\n3 13\n4 13\n1 14\n2 14\n3 14\n4 14\n1 15\n2 15\n3 15\n4 15\n1 16\n2 16\n3 16\n4 16\n1 17\n2 17\n3 17\n4 17\n1 18\n2 18\n3 18\n4 18\n1 19\n2 19\n3 19\n4 19\n1 20\n2 20\n3 20\n4 20\n1 21\n2 21\n3 21\n4 21\n1 22\n2 22\n3 22\n4 22\n1 23\n2 23\n3 23\n4 23\n1 24\n2 24\n3 24\n4 24\n1 25\n2 25\n3 25\n4 25\n1 26\n2 26\n3 26\n4 26\n1 27\n2 27\n3 27\n4 27\n1 28\n2 28\n3 28\n4 28\n1 29\n2 29\n3 29\n4 29\n1 30\n2 30\n3 30\n4 30\n";
+
+/// Whether it holds of that matrix so many times.
+fn is_same_again<R: Threads + AllocGlobal + Sync>(rt: &R, times: u32) -> bool {
+    for _ in 0..times {
+        if !has_same_reports(rt, CONTESTED) {
+            return false;
         }
     }
-    Ok(file)
+    true
 }
 
 #[test]
-fn a_contested_matrix_again_and_again(rt: HostRuntime) -> Result<(), Fail> {
-    let file = contested(rt.alloc())?;
-    for _ in 0..10 {
-        assert!(rt; same_reports(&rt, file.as_bytes()));
-    }
-    Ok(())
+fn a_contested_matrix_again_and_again(rt: HostRuntime) {
+    assert!(rt; is_same_again(&rt, 10));
 }
 
 /// Whether with each number of workers the summary of a matrix of this seed is that of one engine.
