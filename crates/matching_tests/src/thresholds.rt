@@ -14,6 +14,7 @@ use std::alloc::Global;
 use std::test::Fail;
 use std::thread::Threads;
 use test_gates::BarrierGate;
+use test_matrices::are;
 use tree_graft::complete;
 
 /// An entry in each column of the first row, and no other. Fails where there is no row, and where
@@ -55,15 +56,11 @@ fn has_one_pair<R: AllocGlobal + Threads + Sync, G: Gate>(
 /// Whether these are all columns, and their one neighbour is the first row.
 fn are_all_columns(pattern: &Pattern, columns: &[Col]) -> bool {
     for col in columns {
-        if col.0 >= pattern.cols() || !is_first_row(pattern.rows_of(*col)) {
+        if col.0 >= pattern.cols() || !are(pattern.rows_of(*col), &[1]) {
             return false;
         }
     }
     columns.len() == pattern.cols() as usize
-}
-
-fn is_first_row(rows: &[Row]) -> bool {
-    rows.len() == 1 && rows[0].0 == 0
 }
 
 /// Whether all columns may be missed, and their one neighbour is the first row.
