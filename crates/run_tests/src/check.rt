@@ -175,10 +175,20 @@ fn needs_line<R: Threads + AllocGlobal + Sync>(
     }
 }
 
+/// How many lines a text has.
+fn lines_of(text: &[u8]) -> usize {
+    let mut lines = 0usize;
+    for byte in text {
+        if *byte == b'\n' {
+            lines = lines.saturating_add(1);
+        }
+    }
+    lines
+}
+
 /// Whether that holds of each of its lines.
 fn needs_each_line<R: Threads + AllocGlobal + Sync>(rt: &R, file: &[u8], report: &[u8]) -> bool {
-    let lines = report.iter().filter(|byte| **byte == b'\n').count();
-    for left_out in 0..lines {
+    for left_out in 0..lines_of(report) {
         if !needs_line(rt, file, report, left_out) {
             return false;
         }

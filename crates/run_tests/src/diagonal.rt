@@ -128,11 +128,11 @@ fn are_fair(example: &Example<'_>, rows: &[i64], cols: &[i64]) -> bool {
         && cost_no_more(rows, cols, example.pairs)
 }
 
-/// The numbers of a line behind its word.
+/// The numbers of a line behind its word and a space.
 fn numbers(alloc: Global, line: &str, word: &str) -> Option<Vec<i64>> {
     let list = line.strip_prefix(word)?;
     let mut numbers = Vec::new(alloc);
-    for number in list.split(' ').skip(1) {
+    for number in list.split(' ') {
         let Ok(value) = number.parse::<i64>() else {
             return None;
         };
@@ -152,7 +152,7 @@ fn price_lines<'a>(text: &'a str, front: &str) -> Option<(&'a str, &'a str)> {
 
 /// Whether the prices of the columns are fair beside those of the rows.
 fn are_fair_beside(alloc: Global, example: &Example<'_>, rows: &[i64], cols: &str) -> bool {
-    match numbers(alloc, cols, "column_prices") {
+    match numbers(alloc, cols, "column_prices ") {
         None => false,
         Some(cols) => are_fair(example, rows, cols.as_slice()),
     }
@@ -160,7 +160,7 @@ fn are_fair_beside(alloc: Global, example: &Example<'_>, rows: &[i64], cols: &st
 
 /// Whether these lines are fair prices.
 fn are_fair_lines(alloc: Global, example: &Example<'_>, rows: &str, cols: &str) -> bool {
-    match numbers(alloc, rows, "row_prices") {
+    match numbers(alloc, rows, "row_prices ") {
         None => false,
         Some(rows) => are_fair_beside(alloc, example, rows.as_slice(), cols),
     }

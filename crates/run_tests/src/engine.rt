@@ -6,6 +6,7 @@ ghost use Rattle.sp_ids.specs.Limits.{max_workers};
 use btf_tool::{Engine, solve};
 use sp_pattern::Pattern;
 use sp_ports::NoGate;
+use std::test::Fail;
 use std::thread::Threads;
 use test_matrices::pattern_of;
 
@@ -41,19 +42,18 @@ fn are_matched<R: Threads + AllocGlobal + Sync>(
     sizes: (u32, u32),
     places: &[(u32, u32)],
     size: u32,
-) -> bool {
-    match pattern_of(rt, sizes.0, sizes.1, places) {
-        Err(_) => false,
-        Ok(pattern) => has_size_by_each(rt, &pattern, size),
-    }
+) -> Result<bool, Fail> {
+    let pattern = pattern_of(rt, sizes.0, sizes.1, places)?;
+    Ok(has_size_by_each(rt, &pattern, size))
 }
 
 /// Columns 1 and 2 have row 1 alone, and rows 3 and 4 have column 4 alone.
 static THREE_PARTS: [(u32, u32); 7] = [(1, 1), (1, 2), (1, 3), (2, 3), (2, 4), (3, 4), (4, 4)];
 
 #[test]
-fn one_column_and_one_row_stay_unmatched(rt: HostRuntime) {
-    assert!(rt; are_matched(&rt, (4, 4), &THREE_PARTS, 3));
+fn one_column_and_one_row_stay_unmatched(rt: HostRuntime) -> Result<(), Fail> {
+    assert!(rt; are_matched(&rt, (4, 4), &THREE_PARTS, 3)?);
+    Ok(())
 }
 
 /// The start takes row 1 for column 1, which leaves row 2 alone to columns 3 and 4. A maximum
@@ -64,12 +64,14 @@ static BAD_START: [(u32, u32); 9] = [
 ];
 
 #[test]
-fn the_start_is_not_maximum(rt: HostRuntime) {
-    assert!(rt; are_matched(&rt, (4, 4), &BAD_START, 4));
+fn the_start_is_not_maximum(rt: HostRuntime) -> Result<(), Fail> {
+    assert!(rt; are_matched(&rt, (4, 4), &BAD_START, 4)?);
+    Ok(())
 }
 
 #[test]
-fn no_entries(rt: HostRuntime) {
-    assert!(rt; are_matched(&rt, (0, 0), &[], 0));
-    assert!(rt; are_matched(&rt, (3, 2), &[], 0));
+fn no_entries(rt: HostRuntime) -> Result<(), Fail> {
+    assert!(rt; are_matched(&rt, (0, 0), &[], 0)?);
+    assert!(rt; are_matched(&rt, (3, 2), &[], 0)?);
+    Ok(())
 }
