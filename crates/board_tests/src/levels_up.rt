@@ -42,7 +42,8 @@ fn forest_after_a_graft<'p, R: Abort + AllocGlobal>(
         Event::Graft,
     ];
     let (forest, made) = every_run(rt.alloc(), pattern, matching, &events)?;
-    assert!(rt; made == 5 && forest.claims().is_empty());
+    assert_eq!(rt; made, 5);
+    assert!(rt; forest.claims().is_empty());
     Ok(forest)
 }
 
