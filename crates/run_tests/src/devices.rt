@@ -329,10 +329,11 @@ fn pieces_of_the_input_change_nothing(rt: HostRuntime) {
     assert!(rt; all_go(&rt, &PIECES));
 }
 
-/// Whether a run over one entry writes this text to the first of two sinks.
+/// Whether a command over one entry writes this text to the first of two sinks.
 fn writes<R: Threads + AllocGlobal + Sync>(
     rt: &R,
-    run: &Run,
+    command: &str,
+    text: &[u8],
     out: &mut SteadySink,
     err: &mut SteadySink,
 ) -> bool {
@@ -340,37 +341,33 @@ fn writes<R: Threads + AllocGlobal + Sync>(
         return false;
     };
     let mut input = SteadySource::new(bytes, 10);
-    run_over(rt, run.commands, &mut input, out, err, &NoGate) == Ok(run.status)
-        && out.bytes() == run.out
-        && err.bytes() == run.err
+    let status = run_over(rt, &[command], &mut input, out, err, &NoGate);
+    status == Ok(Status::Ok) && out.bytes() == text && err.bytes().is_empty()
 }
 
 /// Whether it does to a first sink, by devices that do what is asked and count nothing.
-fn writes_to<R: Threads + AllocGlobal + Sync>(rt: &R, run: &Run, out: &mut SteadySink) -> bool {
+fn writes_to<R: Threads + AllocGlobal + Sync>(
+    rt: &R,
+    command: &str,
+    text: &[u8],
+    out: &mut SteadySink,
+) -> bool {
     match SteadySink::new(rt.alloc(), 4096, 10) {
         Err(_) => false,
-        Ok(mut err) => writes(rt, run, out, &mut err),
+        Ok(mut err) => writes(rt, command, text, out, &mut err),
     }
 }
 
 /// Whether it does to sinks that are made for it.
-fn writes_steadily<R: Threads + AllocGlobal + Sync>(rt: &R, run: &Run) -> bool {
+fn writes_steadily<R: Threads + AllocGlobal + Sync>(rt: &R, command: &str, text: &[u8]) -> bool {
     match SteadySink::new(rt.alloc(), 4096, 10) {
         Err(_) => false,
-        Ok(mut out) => writes_to(rt, run, &mut out),
+        Ok(mut out) => writes_to(rt, command, text, &mut out),
     }
 }
 
-static RANK: Run = Run {
-    commands: &["rank"],
-    out: SMALLEST_RANK,
-    ..REPORT
-};
-
-static SAME_REPORT: Run = REPORT;
-
 #[test]
 fn steady_devices(rt: HostRuntime) {
-    assert!(rt; writes_steadily(&rt, &RANK));
-    assert!(rt; writes_steadily(&rt, &SAME_REPORT));
+    assert!(rt; writes_steadily(&rt, "rank", SMALLEST_RANK));
+    assert!(rt; writes_steadily(&rt, "analyse --report 1", SMALLEST_REPORT));
 }
