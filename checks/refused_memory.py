@@ -26,7 +26,7 @@ import tempfile
 from kit import ROOT
 
 # Which allocation of a test fails, and how many of a job's first are refused in turn: more than it makes.
-REFUSED_AT, TRIED = 1000, 450
+REFUSED_AT, TRIED = 1000, 600
 
 # where a job's functions stand, of which the tests are left out; what its own text uses besides; how it is called; and what
 # has to come of some refusal at least

@@ -82,7 +82,7 @@ fn adopts_the_path<R: Abort + AllocGlobal + Threads + Sync, G: Gate>(
     forest: &mut Forest,
     workers: u32,
     gate: &G,
-) -> Result<(), OutOfMemory>
+) -> Result<(), Fail>
     requires workers { (1 ≤ workers) × (workers ≤ max_workers) }
     requires none_flipped { forest.old.flipped ≡ [] }
     requires sizes { (forest.old.matrix.rows ≡ 3) × (cols forest.old.matrix ≡ 3) }
@@ -104,7 +104,7 @@ fn exchanges_the_path<R: Abort + AllocGlobal + Threads + Sync, G: Gate>(
 {
     let pattern = pattern_of_three(rt)?;
     let mut forest = forest_of_one_path(rt, &pattern)?;
-    Ok(adopts_the_path(rt, &mut forest, workers, gate)?)
+    adopts_the_path(rt, &mut forest, workers, gate)
 }
 
 // Each worker arrives once, and with several of them all work at once.
@@ -127,10 +127,7 @@ fn two_workers_meet(rt: HostRuntime) -> Result<(), Fail> {
 }
 
 // Of one worker on a board of the forest, the seat that took the tree finds that it has it.
-fn asks_again<R: Abort + AllocGlobal + Threads + Sync>(
-    rt: &R,
-    forest: &Forest,
-) -> Result<(), OutOfMemory>
+fn asks_again<R: Abort + AllocGlobal + Threads + Sync>(rt: &R, forest: &Forest) -> Result<(), Fail>
     requires none_flipped { forest.now.flipped ≡ [] }
     requires cols { cols forest.now.matrix ≡ 3 }
 {
@@ -144,5 +141,5 @@ fn asks_again<R: Abort + AllocGlobal + Threads + Sync>(
 fn the_taker_asks_again(rt: HostRuntime) -> Result<(), Fail> {
     let pattern = pattern_of_three(&rt)?;
     let forest = forest_of_one_path(&rt, &pattern)?;
-    Ok(asks_again(&rt, &forest)?)
+    asks_again(&rt, &forest)
 }

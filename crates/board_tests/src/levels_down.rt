@@ -7,7 +7,7 @@ use crate::outcomes::{both_have_met, have_come_once};
 use forest_core::{Forest, forests_are_rested};
 use frontier_levels::{absorb, open, top_down};
 use level_sharing::WORTH_THREADS;
-use sp_ids::{Col, OutOfMemory, Row};
+use sp_ids::{Col, Row};
 use sp_pattern::Pattern;
 use sp_ports::{Gate, MeetGate};
 use std::process::Abort;
@@ -46,7 +46,7 @@ fn level<R: Abort + AllocGlobal + Threads + Sync, G: Gate>(
     rt: &R,
     forest: &mut Forest,
     gate: &G,
-) -> Result<(), OutOfMemory>
+) -> Result<(), Fail>
     requires settled { IsSettled forest.old }
     requires inside { InForest forest.old 0 × InForest forest.old 1 }
 {
@@ -65,7 +65,7 @@ fn row_is_claimed_at<R: Abort + AllocGlobal + Threads + Sync, G: Gate>(
 ) -> Result<(), Fail> {
     let pattern = pattern_of(rt, 1, 2, &[(1, 1), (1, 2)])?;
     let mut forest = forest_of_two_columns(rt, &pattern)?;
-    Ok(level(rt, &mut forest, gate)?)
+    level(rt, &mut forest, gate)
 }
 
 #[test]

@@ -9,7 +9,7 @@ use bottom_up::attach;
 use forest_core::{Forest, every_run};
 use frontier_levels::open;
 use level_sharing::WORTH_THREADS;
-use sp_ids::{Col, Event, OutOfMemory, Row};
+use sp_ids::{Col, Event, Row};
 use sp_pattern::Pattern;
 use sp_ports::{Gate, MeetGate};
 use std::process::Abort;
@@ -53,7 +53,7 @@ fn level<R: Abort + AllocGlobal + Threads + Sync, G: Gate>(
     rt: &R,
     forest: &Forest,
     gate: &G,
-) -> Result<(), OutOfMemory>
+) -> Result<(), Fail>
     requires { IsSettled forest.now }
 {
     assert!(rt; forest.pattern().rows() == 3);
@@ -73,7 +73,7 @@ fn row_is_claimed_at<R: Abort + AllocGlobal + Threads + Sync, G: Gate>(
 ) -> Result<(), Fail> {
     let pattern = pattern_of_three(rt)?;
     let forest = forest_after_a_graft(rt, &pattern)?;
-    Ok(level(rt, &forest, gate)?)
+    level(rt, &forest, gate)
 }
 
 #[test]
