@@ -3,7 +3,7 @@
 
     checks/large_pattern.py crates/btf/out/btf [--blocks 250001] [--work DIR]
 
-It is no part of the gate, and takes a minute or two, 150 MB of a disk and 2 GB of memory. The matrix has 12 rows and 12
+The gate runs it (`checks/quick --built`). It takes a minute or two, 150 MB of a disk and 2 GB of memory. The matrix has 12 rows and 12
 columns a block, together 6,000,024; `graft` searches more than 6,000,000 by workers. It is looked whether
 
 - `analyse` by `graft` with one worker and with four writes the text that `pf` writes, byte for byte;
