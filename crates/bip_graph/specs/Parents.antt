@@ -13,6 +13,10 @@ pub data HasDepth (m : List Place) (reached : ℕ → ℕ → Type 0) : ℕ → 
   child : {c d n : ℕ} (r : ℕ) → Among (r, c) m → reached r d → HasDepth m reached d n
       → HasDepth m reached c (suc n)
 
+-- the column is in a tree
+abbrev pub IsRooted : List Place → (ℕ → ℕ → Type 0) → ℕ → Type 0
+IsRooted m reached c = (n : ℕ) × HasDepth m reached c n
+
 -- the column itself, its parent, the parent's parent, and so on to the root
 pub data IsAncestor (m : List Place) (reached : ℕ → ℕ → Type 0) (c : ℕ) : ℕ → Type 0 where
   itself : IsAncestor m reached c c

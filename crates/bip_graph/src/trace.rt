@@ -6,7 +6,7 @@ ghost use Rattle.bip_defs.specs.Matching.{cols_of, rows_of};
 ghost use Rattle.bip_defs.specs.Matrix.{Place};
 ghost use Rattle.bip_defs.specs.Paths.{IsAugmenting};
 ghost use Rattle.bip_defs.specs.Queues.{at};
-ghost use Rattle.bip_graph.specs.Parents.{AreTrees, HasDepth, IsQueue, IsReachedIn, IsTraced};
+ghost use Rattle.bip_graph.specs.Parents.{AreTrees, IsQueue, IsReachedIn, IsRooted, IsTraced};
 
 use crate::matching::Matching;
 use sp_ids::{Col, Row};
@@ -38,7 +38,7 @@ pub trait Parents {
     /// root of its tree.
     fn parent(&self, at: Self::Reached) -> Option<(Row, Self::Reached)>
         requires kept { kept self.now at }
-        requires depth { (n : ℕ) × HasDepth (pairs self.now) (reached self.now) (column at) n }
+        requires depth { IsRooted (pairs self.now) (reached self.now) (column at) }
         ensures pair { IfSome result (λ x. Among (x.0, column at) (pairs self.now)) }
         ensures parent { IfSome result (λ x. reached self.now x.0 (column x.1)) }
         ensures kept { IfSome result (λ x. kept self.now x.1) }
@@ -53,8 +53,7 @@ pub trait Parents {
 pub fn trace_back<T: Parents>(trees: &T, leaf: Row, from: T::Reached, path: &mut Vec<(Row, Col)>)
     requires trees { AreTrees (T.pairs trees.now) (T.reached trees.now) }
     requires kept { T.kept trees.now from }
-    requires depth { (n : ℕ)
-        × HasDepth (T.pairs trees.now) (T.reached trees.now) (T.column from) n }
+    requires depth { IsRooted (T.pairs trees.now) (T.reached trees.now) (T.column from) }
     requires leaf { ¬ Among leaf (rows_of (T.pairs trees.now)) }
     requires room { length (T.pairs trees.now) < vec_capacity path.old }
     ensures path { IsAugmenting (T.pairs trees.now) path.new.items }
