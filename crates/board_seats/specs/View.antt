@@ -1,7 +1,8 @@
 -- What the table of a board keeps of its seats, and what a split and a join do to it.
-use Rattle.std.specs.Prelude.{◌≡◌, ℕ, ◌+◌, ◌-◌, ◌≤◌, ◌==◌, if◌then◌else◌, List, Option, None, Some, sum_by}
+use Rattle.std.specs.Prelude.{◌≡◌, ℕ, ◌+◌, ◌-◌, ◌≤◌, ◌==◌, if◌then◌else◌, List, [], Option, None, Some, sum_by}
 use mathlib.Core.Option.{some}
 use lib.ListN.{get_elem?}
+use Rattle.atomic_table.specs.Table.{Me}
 use Rattle.bip_defs.specs.Occurrences.{below}
 
 -- what a seat knows: what its board was opened with, its number, how many seats there are (which
@@ -19,6 +20,10 @@ module _ {O L : Type 0} where
   abbrev pub known_or : Known O L → Option (Known O L) → Known O L
   known_or nobody None = nobody
   known_or nobody (Some k) = k
+
+  -- a seat at the table that was not joined to another, and holds no slot
+  abbrev pub IsOpen : {S : Type 0} → Known O L → Me S (Option (Known O L)) → Type 0
+  IsOpen nobody me = (me.0 ≡ Some (known_or nobody me.0)) × (me.1 ≡ [])
 
   -- what it lists, or nothing
   abbrev pub listed_or : L → Option (Known O L) → L

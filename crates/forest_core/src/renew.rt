@@ -1,11 +1,10 @@
 //! What stays of a forest when its base matching is renewed.
 
 ghost use Rattle.std.specs.Prelude.{◌≡◌, ℕ, ◌<◌, [], length, take};
-ghost use Rattle.bip_defs.specs.Lists.{Among, AreDistinct, IsMarked};
-ghost use Rattle.bip_defs.specs.Matching.{rows_of};
-ghost use Rattle.forest_core.specs.Kept.{AreFirstRoots, kept};
+ghost use Rattle.bip_defs.specs.Lists.{Among, IsMarked};
+ghost use Rattle.forest_core.specs.Kept.{AreClaimsIn, AreFirstRoots, kept};
 ghost use Rattle.bip_defs.specs.Forest.{roots_of};
-ghost use Rattle.forest_core.specs.Stored.{AreClaimRoots, AreMarks};
+ghost use Rattle.forest_core.specs.Stored.{AreMarks};
 ghost use Rattle.forest_core.specs.Tables.{IsTableOf, beside};
 
 use crate::claim_table::ClaimTable;
@@ -20,11 +19,7 @@ pub fn keep(
     claimed: &mut ClaimTable,
     leaf_of: &Table,
 ) -> usize
-    requires rows { (r c : ℕ) → Among (r, c) claims.old → r < length claimed.old.holders }
-    requires roots { AreClaimRoots claimed.old.roots claims.old roots.old }
-    requires in_range { (x : ℕ) → Among x roots.old → x < length leaf_of.now }
-    requires differ { AreDistinct (rows_of claims.old) }
-    requires holders { IsTableOf claims.old claimed.old.holders }
+    requires { AreClaimsIn claimed.old leaf_of.now claims.old roots.old }
     ensures claims { take result claims.new ≡ kept claimed.old.roots leaf_of.now claims.old }
     ensures roots { AreFirstRoots result claimed.old.roots claims.new roots.new }
     ensures holders { IsTableOf (take result claims.new) claimed.new.holders }

@@ -13,20 +13,14 @@ use Rattle.forest_core.proofs.Roots.{claims_differ}
 use Rattle.bip_defs.proofs.Sets.{written_over}
 use Rattle.forest_core.proofs.forest.Forest.graft.Goals as goal
 
-pub keep-kept-requires-clause-rows : goal.keep-kept-requires-clause-rows
-keep-kept-requires-clause-rows c = λ r x h. claims_within (state_of c.self.inside) _ (tables_of c.self.inside) c.self.invariant.0 r x (subst (Among (r, x)) c.as_mut_slice-claims.ensures.value h)
-
-pub keep-kept-requires-clause-roots : goal.keep-kept-requires-clause-roots
-keep-kept-requires-clause-roots c = rw (c.as_mut_slice-claims.ensures.value, c.as_mut_slice-roots.ensures.value) c.self.invariant.0.listed
-
-pub keep-kept-requires-clause-in_range : goal.keep-kept-requires-clause-in_range
-keep-kept-requires-clause-in_range c = λ x h. roots_within (state_of c.self.inside) _ (tables_of c.self.inside) c.self.invariant.0 x (subst (Among x) c.as_mut_slice-roots.ensures.value h)
-
-pub keep-kept-requires-clause-differ : goal.keep-kept-requires-clause-differ
-keep-kept-requires-clause-differ c = rw c.as_mut_slice-claims.ensures.value (claims_differ _ _ _ _ c.self.invariant.0.sound.claims)
-
-pub keep-kept-requires-clause-holders : goal.keep-kept-requires-clause-holders
-keep-kept-requires-clause-holders c = rw c.as_mut_slice-claims.ensures.value c.self.invariant.0.held
+pub keep-kept-requires : goal.keep-kept-requires
+keep-kept-requires c = record {
+  rows = λ r x h. claims_within (state_of c.self.inside) _ (tables_of c.self.inside) c.self.invariant.0 r x (subst (Among (r, x)) c.as_mut_slice-claims.ensures.value h);
+  roots = rw (c.as_mut_slice-claims.ensures.value, c.as_mut_slice-roots.ensures.value) c.self.invariant.0.listed;
+  in_range = λ x h. roots_within (state_of c.self.inside) _ (tables_of c.self.inside) c.self.invariant.0 x (subst (Among x) c.as_mut_slice-roots.ensures.value h);
+  differ = rw c.as_mut_slice-claims.ensures.value (claims_differ _ _ _ _ c.self.invariant.0.sound.claims);
+  holders = rw c.as_mut_slice-claims.ensures.value c.self.invariant.0.held;
+}
 
 pub clear_leaves-requires-clause-cols : goal.clear_leaves-requires-clause-cols
 clear_leaves-requires-clause-cols c = λ x r h.
