@@ -40,12 +40,12 @@ split-append p (x ∷ xs) ys =
 pub but_last-append : (prefix : List (List ℕ)) (x : List ℕ) (bs : List (List ℕ)) → but_last (prefix ++ x ∷ bs) ≡ prefix ++ but_last (x ∷ bs)
 but_last-append [] x bs = refl
 but_last-append (a ∷ []) x bs = refl
-but_last-append (a ∷ b ∷ prefix) x bs = ap (λ (t : List (List ℕ)). a ∷ t) (but_last-append (b ∷ prefix) x bs)
+but_last-append (a ∷ b ∷ prefix) x bs = ap (◌∷◌ a) (but_last-append (b ∷ prefix) x bs)
 
 pub but_empty_last-append : (prefix : List (List ℕ)) (x : List ℕ) (bs : List (List ℕ)) → but_empty_last (prefix ++ x ∷ bs) ≡ prefix ++ but_empty_last (x ∷ bs)
 but_empty_last-append [] x bs = refl
 but_empty_last-append (a ∷ []) x bs = refl
-but_empty_last-append (a ∷ b ∷ prefix) x bs = ap (λ (t : List (List ℕ)). a ∷ t) (but_empty_last-append (b ∷ prefix) x bs)
+but_empty_last-append (a ∷ b ∷ prefix) x bs = ap (◌∷◌ a) (but_empty_last-append (b ∷ prefix) x bs)
 
 pub last_part-append : (prefix : List (List ℕ)) (x : List ℕ) (bs : List (List ℕ)) → last_part (prefix ++ x ∷ bs) ≡ last_part (x ∷ bs)
 last_part-append [] x bs = refl
@@ -62,6 +62,11 @@ pub but_empty_last-is : (parts : List (List ℕ)) → but_empty_last parts ≡ b
 but_empty_last-is [] = refl
 but_empty_last-is (x ∷ []) = refl
 but_empty_last-is (x ∷ y ∷ parts) = ap (λ (t : List (List ℕ)). x ∷ t) (but_empty_last-is (y ∷ parts))
+
+-- a list with one more byte has bytes
+pub has_bytes-push : (xs : List ℕ) (b : ℕ) → has_bytes (xs ++ b ∷ []) ≡ true
+has_bytes-push [] b = refl
+has_bytes-push (x ∷ xs) b = refl
 
 again : (x : List ℕ) (xs : List (List ℕ)) → but_last (x ∷ xs) ++ last_part (x ∷ xs) ∷ [] ∷ [] ≡ (x ∷ xs) ++ [] ∷ []
 again x xs = sym (append_assoc (but_last (x ∷ xs)) (last_part (x ∷ xs) ∷ []) ([] ∷ [])) ∙ ap (λ (t : List (List ℕ)). t ++ [] ∷ []) (sym (parts_are x xs))

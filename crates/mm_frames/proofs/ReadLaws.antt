@@ -8,6 +8,7 @@ use Rattle.mm_defs.specs.Words.{is_lf, has_bytes, lines, open_line}
 use Rattle.mm_defs.specs.File.{Fault}
 use Rattle.mm_defs.specs.Calls.{Call, Intake, IsAnswerTo, call_on, ended, given, offered}
 use Rattle.mm_defs.proofs.AnswerLemmas.{given_all, given_prefix}
+use Rattle.mm_defs.proofs.SplitLemmas.{has_bytes-push}
 use Rattle.mm_defs.proofs.Lines.{lines-none, open_line-none, lines-push_lf, open_line-push_lf, lines-push, open_line-push, lines-ended, lines-append}
 use Rattle.sp_ports.specs.Device.{Device}
 use Rattle.mm_reader.specs.Fronts.{Front, Stops, UsesByte}
@@ -22,10 +23,6 @@ use Rattle.mm_frames.specs.Stages.{AreRead, HasRead, HasUsed, RefusesLast, Stand
 use Rattle.mm_defs.proofs.EditLineLemmas.{edit_faults-append}
 use Rattle.mm_frames.proofs.EditLaws.{none_read}
 use Rattle.mm_frames.proofs.UsedLaws.{fits, none_used, on_call, one_more, stopped_used, rose_since, used_first, past_given, failed_given, where_known}
-
-has_bytes-push : (xs : List ℕ) (b : ℕ) → has_bytes (xs ++ b ∷ []) ≡ true
-has_bytes-push [] b = refl
-has_bytes-push (x ∷ xs) b = refl
 
 -- ---- byte by byte
 

@@ -14,12 +14,20 @@ use mm_defs::Kind;
 use mm_reader::{LineSoFar, place_within};
 use sp_ids::{Col, MAX_EDITS, Row};
 
-/// Judges an edit line behind so many, of a matrix of so many rows and columns.
-pub fn judge_edit(before: usize, rows: u32, cols: u32, line: &LineSoFar) -> Result<Edit, Kind>
+/// How many rows and columns a matrix has.
+#[derive(Clone, Copy)]
+pub struct Extent {
+    pub rows: u32,
+    pub cols: u32,
+}
+
+/// Judges an edit line behind so many, of a matrix of this extent.
+pub fn judge_edit(before: usize, extent: Extent, line: &LineSoFar) -> Result<Edit, Kind>
     ensures judged { (bytes : List ℕ) → IsLine line.now bytes
-        → JudgedEdit (edit_rules rows cols before (words bytes)) (edit (words bytes)) result }
+        → JudgedEdit (edit_rules extent.rows extent.cols before (words bytes)) (edit (words bytes))
+        result }
     ensures kind { IfErr result (λ kind. is_edit_kind kind ≡ true) }
-    ensures within { IfOk result (IsWithinMatrix rows cols) }
+    ensures within { IfOk result (IsWithinMatrix extent.rows extent.cols) }
 {
     if before >= MAX_EDITS as usize {
         return Err(Kind::Edits);
@@ -39,7 +47,7 @@ pub fn judge_edit(before: usize, rows: u32, cols: u32, line: &LineSoFar) -> Resu
     if !line.has_words(3) {
         return Err(Kind::EditWords);
     }
-    let (row, col) = judge_place(rows, cols, line)?;
+    let (row, col) = judge_place(extent.rows, extent.cols, line)?;
     if sets {
         Ok(Edit::Set(row, col))
     } else {

@@ -12,9 +12,9 @@ ghost use Rattle.mm_reader.specs.Inputs.{CanRead, Draws, FailsByReadFault};
 ghost use Rattle.mm_reader.specs.Lines.{IsLine};
 
 use crate::edit::Edit;
-use crate::judge::judge_edit;
+use crate::judge::{Extent, judge_edit};
 use mm_defs::ReadError;
-use mm_reader::{Input, LineSoFar, line_refusal, next_byte};
+use mm_reader::{BadLine, Input, LineSoFar, next_byte};
 use sp_ports::Source;
 use std::alloc::Global;
 
@@ -22,23 +22,22 @@ use std::alloc::Global;
 fn take_line(
     line: &LineSoFar,
     number: u64,
-    rows: u32,
-    cols: u32,
+    extent: Extent,
     edits: &mut Vec<Edit>,
 ) -> Result<(), ReadError>
     ensures steps { (n : ℕ) (bytes : List ℕ)
         → IsLine line.now bytes
-        → TakesLine rows cols number n bytes edits.old.items edits.new.items result }
+        → TakesLine extent.rows extent.cols number n bytes edits.old.items edits.new.items result }
     ensures kind { HasItsKind result }
     ensures family { IfErr result HasEditKind }
-    ensures within { All (IsWithinMatrix rows cols) edits.old.items
-        → All (IsWithinMatrix rows cols) edits.new.items }
+    ensures within { All (IsWithinMatrix extent.rows extent.cols) edits.old.items
+        → All (IsWithinMatrix extent.rows extent.cols) edits.new.items }
 {
     if line.is_skipped() {
         return Ok(());
     }
-    let edit = match judge_edit(edits.len(), rows, cols, line) {
-        Err(kind) => return Err(line_refusal(number, kind)),
+    let edit = match judge_edit(edits.len(), extent, line) {
+        Err(kind) => return Err(BadLine { line: number, kind }.answer()),
         Ok(edit) => edit,
     };
     match edits.push(edit) {
@@ -52,26 +51,25 @@ fn finish(
     line: &LineSoFar,
     begun: bool,
     lfs: u64,
-    rows: u32,
-    cols: u32,
+    extent: Extent,
     edits: Vec<Edit>,
 ) -> Result<Vec<Edit>, ReadError>
     requires { begun ≡ true → lfs + 1 < 2 ^ 64 }
     ensures steps { (n : ℕ) (bytes : List ℕ)
-        → StandsAfter n rows cols edits.items line.now begun bytes
+        → StandsAfter n extent.rows extent.cols edits.items line.now begun bytes
         → lfs ≡ n + length (lines false bytes)
-        → MatchResult result (λ v. AreRead n rows cols (lines true bytes) v.items)
-        (RefusesLast n rows cols (lines true bytes)) }
+        → MatchResult result (λ v. AreRead n extent.rows extent.cols (lines true bytes) v.items)
+        (RefusesLast n extent.rows extent.cols (lines true bytes)) }
     ensures kind { HasItsKind result }
     ensures family { IfErr result HasEditKind }
-    ensures within { All (IsWithinMatrix rows cols) edits.items
-        → IfOk result (λ v. All (IsWithinMatrix rows cols) v.items) }
+    ensures within { All (IsWithinMatrix extent.rows extent.cols) edits.items
+        → IfOk result (λ v. All (IsWithinMatrix extent.rows extent.cols) v.items) }
 {
     let mut edits = edits;
     if !begun {
         return Ok(edits);
     }
-    take_line(line, lfs + 1, rows, cols, &mut edits)?;
+    take_line(line, lfs + 1, extent, &mut edits)?;
     Ok(edits)
 }
 
@@ -101,14 +99,15 @@ pub fn read_edits<S: Source>(
     // All lines were read where a read has given none, whatever the source tells of its bytes.
     ensures ended { OnOk result (IsTrue input.new.at_end) }
 {
+    let extent = Extent { rows, cols };
     let mut edits = Vec::new(alloc);
     let mut line = LineSoFar::new();
     let mut begun = false;
     'reading: loop {
         match next_byte(input, source)? {
-            None => return finish(&line, begun, input.lines(), rows, cols, edits),
+            None => return finish(&line, begun, input.lines(), extent, edits),
             Some(b'\n') => {
-                take_line(&line, input.lines(), rows, cols, &mut edits)?;
+                take_line(&line, input.lines(), extent, &mut edits)?;
                 line.clear();
                 begun = false;
             }

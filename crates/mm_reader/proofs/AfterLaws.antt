@@ -14,7 +14,7 @@ use Rattle.mm_reader.specs.KeptLines.{KeptLine}
 use Rattle.mm_reader.specs.Lines.{IsLine}
 use Rattle.mm_reader.specs.Machine.{is_complete, StopsAt}
 use Rattle.mm_reader.specs.Stages.{IsBetween, IsAfter, StopsIn}
-use Rattle.mm_reader.proofs.Words.{has_bytes-push}
+use Rattle.mm_defs.proofs.SplitLemmas.{has_bytes-push}
 
 pub map_result : {T E : Type 0} (P Q : T → Type 0) (F G : E → Type 0) (r : Result T E) → ((x : T) → P x → Q x) → ((e : E) → F e → G e) → MatchResult r P F → MatchResult r Q G
 map_result P Q F G (Ok x) f g h = f x h
@@ -51,7 +51,7 @@ lf_comes end m bytes b e h =
     }
 
 pub lf_stops : (end : End) (bytes : List ℕ) (b : ℕ) (stop : Stop) → b ≡ 10 → StopsAt end (lines false bytes ++ open_line bytes ∷ []) stop → StopsIn end (bytes ++ b ∷ []) stop
-lf_stops end bytes b (stops.Bad line kind) e h =
+lf_stops end bytes b (stops.Bad fault) e h =
     let k = lines-push_lf bytes b (lf b e) in
     record {
       bad = rw k h.0;

@@ -133,18 +133,18 @@ module _ (end : End) (bytes : List ℕ) where
 
   pub stop_begun : (stop : Stop) → has_bytes (open_line bytes) ≡ true → StopsAt end (lines false bytes ++ open_line bytes ∷ []) stop → StopsAtEnd end bytes stop
   unfolding first_fault
-  stop_begun (stops.Bad line kind) e h =
+  stop_begun (stops.Bad fault) e h =
       let k = begun_lines_are e in
-      (rw k (first_of (lines false bytes ++ open_line bytes ∷ []) (record { line = line; kind = kind }) h.0), past_last line h.1)
+      (rw k (first_of (lines false bytes ++ open_line bytes ∷ []) fault h.0), past_last fault.line h.1)
   stop_begun stops.Memory e h = tt
 
   pub lacks_begun : (stop : Stop) → has_bytes (open_line bytes) ≡ true → Lacks end (lines false bytes ++ open_line bytes ∷ []) stop → StopsAtEnd end bytes stop
   unfolding first_fault
-  lacks_begun (stops.Bad line kind) e h =
+  lacks_begun (stops.Bad fault) e h =
       let k = begun_lines_are e in
       let n = length-append (lines false bytes) (open_line bytes ∷ []) in
-      let at : line ≡ length (lines false bytes ++ open_line bytes ∷ []) = omega (arith, h.1) in
-      (rw k h.0, past_last line at)
+      let at : fault.line ≡ length (lines false bytes ++ open_line bytes ∷ []) = omega (arith, h.1) in
+      (rw k h.0, past_last fault.line at)
   lacks_begun stops.Memory e h = tt
 
   behind_closed : (line : ℕ) → open_line bytes ≡ [] → line ≡ max (length (lines false bytes)) 1 → behind line bytes ≡ []
@@ -159,7 +159,7 @@ module _ (end : End) (bytes : List ℕ) where
 
   pub lacks_closed : (stop : Stop) → has_bytes (open_line bytes) ≡ false → Lacks end (lines false bytes) stop → StopsAtEnd end bytes stop
   unfolding first_fault
-  lacks_closed (stops.Bad line kind) e h =
+  lacks_closed (stops.Bad fault) e h =
       let k = closed_lines_are e in
-      (rw k h.0, behind_closed line (empty_of (open_line bytes) e) h.1)
+      (rw k h.0, behind_closed fault.line (empty_of (open_line bytes) e) h.1)
   lacks_closed stops.Memory e h = tt

@@ -9,7 +9,7 @@ use Rattle.mm_defs.specs.Numbers.{value, bare}
 use Rattle.mm_defs.proofs.AnswerLemmas.{and_left, and_right}
 use Rattle.mm_reader.specs.declared.number.Number.{Number}
 use Rattle.mm_reader.specs.Tokens.{capped, number_facts, next_number}
-use Rattle.mm_reader.proofs.Words.{has_bytes-push}
+use Rattle.mm_defs.proofs.SplitLemmas.{has_bytes-push}
 
 -- by the sign, and the bytes behind it
 abbrev facts : Bool → List ℕ → Number

@@ -63,8 +63,8 @@ module _ (m : Machine) (b : Preamble) (before : Position) (w : AwaitsPlain m b b
   }
 
   halted : (stop : Stop) → Shown (Err stop) → (end : End) (bytes : List ℕ) → IsAfter end m bytes → StopsIn end (bytes ++ (text ++ 10 ∷ [])) stop
-  halted (stops.Bad line kind) f end bytes a =
-      let r = shown_at (Err (stops.Bad line kind)) f end bytes a in
+  halted (stops.Bad fault) f end bytes a =
+      let r = shown_at (Err (stops.Bad fault)) f end bytes a in
       let e = whole_line bytes text (closed_is end bytes a) p.no_lf in
       record { bad = rw e r.0; number_is = rw e r.1; closed = whole_closed_line bytes text }
   halted stops.Memory f end bytes a = tt

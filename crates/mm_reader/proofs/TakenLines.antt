@@ -22,7 +22,7 @@ use Rattle.mm_reader.proofs.StepLaws.{entries_phase, entry_good, entry_bad}
 
 module _ (b : Preamble) (at : Position) (t : entries.Entries) (room : HasRoom b at t) (low : at.done < b.size.count)
     (number : ℕ) (end : End) (line : List ℕ) (kept : is_skipped (words line) ≡ false) where
-  refused : (kind : Kind) (after : entries.Entries) → first_kind (entry_rules b.header b.size (words line)) ≡ Some kind → TakesLine b at t number end line after (Err (stops.Bad number kind))
+  refused : (kind : Kind) (after : entries.Entries) → first_kind (entry_rules b.header b.size (words line)) ≡ Some kind → TakesLine b at t number end line after (Err (stops.Bad (record { line = number; kind = kind })))
   refused kind after first ls banner has good n = entry_bad end ls line b.header number banner n good kept b.size at.done t has kind low first
 
   -- what a call that keeps the line's entries says
@@ -41,7 +41,7 @@ module _ (b : Preamble) (at : Position) (t : entries.Entries) (room : HasRoom b 
   -- ---- an entry line
 
   module _ (coordinate : b.header.format ≡ Coordinate) where
-    pub entry_refused : (kind : Kind) (after : entries.Entries) → first_kind (coordinate_rules b.header b.size (words line)) ≡ Some kind → TakesLine b at t number end line after (Err (stops.Bad number kind))
+    pub entry_refused : (kind : Kind) (after : entries.Entries) → first_kind (coordinate_rules b.header b.size (words line)) ≡ Some kind → TakesLine b at t number end line after (Err (stops.Bad (record { line = number; kind = kind })))
     entry_refused kind after first = refused kind after (rw (entry_rules_are b.header b.size (words line) coordinate) first)
 
     pub entry_taken : (e : Entry) (after : entries.Entries) (r : Result Position Stop) → JudgedEntry (coordinate_rules b.header b.size (words line)) (triple b.header (words line)) (Ok e)
@@ -54,7 +54,7 @@ module _ (b : Preamble) (at : Position) (t : entries.Entries) (room : HasRoom b 
   -- ---- a value line
 
   module _ (array : b.header.format ≡ Array) where
-    pub value_refused : (kind : Kind) (after : entries.Entries) → first_kind (array_rules b.header (words line)) ≡ Some kind → TakesLine b at t number end line after (Err (stops.Bad number kind))
+    pub value_refused : (kind : Kind) (after : entries.Entries) → first_kind (array_rules b.header (words line)) ≡ Some kind → TakesLine b at t number end line after (Err (stops.Bad (record { line = number; kind = kind })))
     value_refused kind after first = refused kind after (rw (value_rules_are b.header b.size (words line) array) first)
 
     pub value_taken : (v : ℤ) (after : entries.Entries) (r : Result Position Stop) → first_kind (array_rules b.header (words line)) ≡ None → v ≡ integer (word (words line) 0)

@@ -7,6 +7,7 @@ use Rattle.mm_defs.specs.declared.answers.ReadError.TheVariants as errors
 use Rattle.mm_defs.specs.declared.kinds.Kind.{Kind}
 use Rattle.mm_defs.specs.Words.{is_lf, lines}
 use Rattle.mm_defs.specs.Faults.{is_limit}
+use Rattle.mm_defs.specs.File.{Fault}
 use Rattle.mm_defs.proofs.Behind.{length-lines}
 use Rattle.mm_reader.specs.declared.machine.Stop.{Stop}
 use Rattle.mm_reader.specs.declared.machine.Stop.TheVariants as stops
@@ -19,8 +20,8 @@ use Rattle.mm_reader.proofs.MissingLines.{lacks_lines}
 
 -- what stopped the machine within the bytes ahead, all of which may be used
 module _ (end : End) (bytes ahead : List ℕ) (room : ℕ) (short : length ahead ≤ room) where
-  bad_prefix : (line : ℕ) (kind : Kind) → StopsWithin end bytes ahead (stops.Bad line kind) → HasBadPrefix end bytes ahead room (record { line = line; kind = kind })
-  bad_prefix line kind s =
+  bad_prefix : (fault : Fault) → StopsWithin end bytes ahead (stops.Bad fault) → HasBadPrefix end bytes ahead room fault
+  bad_prefix fault s =
       let n : length ahead ≡ length s.prefix + length s.rest = ap length s.piece_is ∙ length-append s.prefix s.rest in
       record {
         prefix = s.prefix;
@@ -36,7 +37,7 @@ module _ (end : End) (bytes ahead : List ℕ) (room : ℕ) (short : length ahead
   by_kind line kind false e h = (h, e)
 
   pub refuses : (stop : Stop) → StopsWithin end bytes ahead stop → Refuses end bytes ahead room (refusal_of stop)
-  refuses (stops.Bad line kind) s = by_kind line kind (is_limit kind) refl (bad_prefix line kind s)
+  refuses (stops.Bad fault) s = by_kind fault.line fault.kind (is_limit fault.kind) refl (bad_prefix fault s)
   refuses stops.Memory s = tt
 
 -- the bytes ahead of a window

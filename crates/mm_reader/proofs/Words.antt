@@ -3,7 +3,7 @@ use Rattle.std.proofs.Common.{◌≡◌, ℕ, true, false, cond, List, [], ◌�
 use Rattle.std.specs.List.{slice_split}
 use Rattle.std.proofs.lemmas.List.Elements.{filter-append}
 use Rattle.mm_defs.specs.Words.{Word, words, but_last, last_part, has_bytes, is_blank}
-use Rattle.mm_defs.proofs.SplitLemmas.{split_cons, parts_are, split-push_yes, split-push_no, last_part-append}
+use Rattle.mm_defs.proofs.SplitLemmas.{split_cons, parts_are, split-push_yes, split-push_no, last_part-append, has_bytes-push}
 use Rattle.mm_reader.specs.Lines.{in_word}
 
 -- the words but for the last, where it may go on
@@ -38,10 +38,6 @@ in_word-blank line b e = rw (split-push_yes is_blank line b e) (ap has_bytes (la
 
 open_word-push : (line : List ℕ) (b : ℕ) → is_blank b ≡ false → open_word (line ++ b ∷ []) ≡ open_word line ++ b ∷ []
 open_word-push line b e = rw (split-push_no is_blank line b e) (last_part-append (but_last (slice_split is_blank line)) (open_word line ++ b ∷ []) [])
-
-pub has_bytes-push : (w : List ℕ) (b : ℕ) → has_bytes (w ++ b ∷ []) ≡ true
-has_bytes-push [] b = refl
-has_bytes-push (a ∷ w) b = refl
 
 if_any-push : (w : List ℕ) (b : ℕ) → if_any (w ++ b ∷ []) ≡ (w ++ b ∷ []) ∷ []
 if_any-push w b = rw (has_bytes-push w b) refl

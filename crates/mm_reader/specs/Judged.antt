@@ -1,14 +1,14 @@
 -- What a line is found to be.
-use Rattle.std.specs.Prelude.{◌≡◌, ◌≤◌, ◌-◌, ℕ, true, false, List, [], ◌∷◌, Option, Some, None, Result, Ok, Err}
+use Rattle.std.specs.Prelude.{◌≡◌, ◌≤◌, ◌<◌, ◌-◌, ℕ, pos, nat_abs, true, false, List, [], ◌∷◌, Option, Some, None, Result, Ok, Err}
 use Rattle.sp_ids.specs.Entries.{Triple}
 use Rattle.sp_ids.specs.declared.triples.Field.TheVariants.{Integer}
-use Rattle.sp_ids.specs.Limits.{max_cols, max_entry_lines, max_rows}
+use Rattle.sp_ids.specs.Limits.{max_cols, max_entry_lines, max_rows, max_value}
 use Rattle.mm_defs.specs.declared.kinds.Kind.{Kind}
 use Rattle.mm_defs.specs.declared.kinds.Kind.TheVariants.{ColumnRange, RowRange}
 use Rattle.mm_defs.specs.declared.header.Header.{Header}
 use Rattle.mm_defs.specs.declared.header.Size.{Size}
 use Rattle.mm_defs.specs.Arrays.{value_count}
-use Rattle.mm_defs.specs.Header.{is_array, is_general}
+use Rattle.mm_defs.specs.Header.{is_array, is_general, is_integer_field}
 use Rattle.mm_defs.specs.Faults.{Rule, first_kind, is_outside}
 use Rattle.mm_reader.specs.declared.judge.Entry.{Entry}
 
@@ -19,6 +19,13 @@ Judged rules says (Err kind) = first_kind rules ≡ Some kind
 
 abbrev pub triple_of : Entry → Triple
 triple_of e = record { row = e.row; col = e.col; value = e.value }
+
+-- The entry is one of such a file: its place is in the matrix, and only an integer file has values.
+pub record Fits (h : Header) (s : Size) (e : Entry) : Type 0 where
+  pub row : e.row < s.rows
+  pub col : e.col < s.cols
+  pub value : is_integer_field h.field ≡ false → e.value ≡ pos 0
+  pub small : nat_abs e.value ≤ max_value
 
 -- the same of the entry that a line says
 abbrev pub JudgedEntry : List Rule → Triple → Result Entry Kind → Type 0

@@ -1,5 +1,6 @@
 pub mod Additions
 pub mod ArrayPlaces
+pub mod BadLines
 pub mod EntryLimits
 pub mod Fronts
 pub mod Inputs

@@ -67,8 +67,7 @@ pub record HasLines (end : End) (phase : Phase) (t : entries.Entries) (ls : List
 
 -- the last of these lines is the one bad line
 abbrev pub StopsAt : End → List (List ℕ) → Stop → Type 0
-StopsAt end ls (stops.Bad line kind) = (line_faults end ls ≡ record { line = line; kind = kind }
-    ∷ []) × (line ≡ length ls)
+StopsAt end ls (stops.Bad fault) = (line_faults end ls ≡ fault ∷ []) × (fault.line ≡ length ls)
 StopsAt end ls stops.Memory = Unit {0}
 
 -- the phase after one more line, or its fault, which is the only one

@@ -10,7 +10,12 @@ use Rattle.mm_defs.specs.declared.answers.ReadError.TheVariants.{TooLong}
 use Rattle.mm_defs.specs.Calls.{LacksLf, TakesAtMostOnePast}
 use Rattle.mm_reader.specs.declared.window.Window.{Window}
 use Rattle.mm_reader.specs.Inputs.{FailsByReadFault}
-use Rattle.mm_reader.specs.Windows.{ahead_of, HasCounted, IsInRoom, IsOnePast, KeepsWindow, OnCallOf}
+use Rattle.mm_reader.specs.Windows.{ahead_of, HasCounted, IsInRoom, IsOnePast, IsWindow, KeepsWindow, OnCallOf}
+
+-- The window may be read on: where a read has given no bytes, its source is at its end.
+pub record CanGoOn (left : Option (List ℕ)) (w : Window) : Type 0 where
+  pub window : IsWindow w
+  pub at_end : IsTrue w.at_end → IsAtEnd left
 
 -- Where a read has given no bytes, the source is not asked again.
 pub record AsksOnce {S : Type 0} (left : S → Option (List ℕ)) (before after : S)

@@ -23,6 +23,12 @@ pub record IsBetween (end : End) (m : Machine) (ls : List (List ℕ)) : Type 0 w
   pub open_is : IsLine m.line []
   pub begun_is : m.begun ≡ false
 
+-- These lines have come, and the open line has these bytes so far.
+pub record HasOpenLine (end : End) (m : Machine) (ls : List (List ℕ)) (line : List ℕ) : Type 0 where
+  pub lines_are : HasLines end m.phase m.triples ls
+  pub number_is : m.number ≡ length ls
+  pub open_is : IsLine m.line line
+
 -- These bytes have come: their lines are good, and the open line is kept by its words.
 pub record IsAfter (end : End) (m : Machine) (bytes : List ℕ) : Type 0 where
   pub lines_are : HasLines end m.phase m.triples (lines false bytes)
@@ -41,7 +47,7 @@ pub record EndsBad (end : End) (fault : Fault) (bytes : List ℕ) : Type 0 where
   pub closed : open_line bytes ≡ []
 
 abbrev pub StopsIn : End → List ℕ → Stop → Type 0
-StopsIn end bytes (stops.Bad line kind) = EndsBad end (record { line = line; kind = kind }) bytes
+StopsIn end bytes (stops.Bad fault) = EndsBad end fault bytes
 StopsIn end bytes stops.Memory = Unit {0}
 
 -- a prefix of the piece ends with the one bad line
@@ -61,15 +67,20 @@ pub record IsAll (end : End) (phase : Phase) (t : entries.Entries) (ls : List
 
 -- the input ended with these lines, and this is its first fault
 abbrev pub Lacks : End → List (List ℕ) → Stop → Type 0
-Lacks end ls (stops.Bad line kind) = (slice_get (faults end true ls) 0
-    ≡ Some (record { line = line; kind = kind })) × (line ≡ max (length ls) 1)
+Lacks end ls (stops.Bad fault) = (slice_get (faults end true ls) 0 ≡ Some fault)
+    × (fault.line ≡ max (length ls) 1)
 Lacks end ls stops.Memory = Unit {0}
 
 -- the input ended with these bytes, and this is its first fault
 abbrev pub StopsAtEnd : End → List ℕ → Stop → Type 0
-StopsAtEnd end bytes (stops.Bad line kind) = (first_fault end true bytes
-    ≡ Some (record { line = line; kind = kind })) × (behind line bytes ≡ [])
+StopsAtEnd end bytes (stops.Bad fault) = (first_fault end true bytes ≡ Some fault)
+    × (behind fault.line bytes ≡ [])
 StopsAtEnd end bytes stops.Memory = Unit {0}
+
+-- Where the matrix has just been read, no line has begun behind it.
+abbrev pub ClosesWhole : Machine → Machine → Type 0
+ClosesWhole old new = (end : End) → is_complete end old.phase ≡ false
+    → is_complete end new.phase ≡ true → new.begun ≡ false
 
 -- The machine goes on from one place of a piece to another: it got the bytes between.
 pub record GoesOn (old new : Machine) (piece : List ℕ) (at next : ℕ) : Type 0 where
@@ -77,11 +88,19 @@ pub record GoesOn (old new : Machine) (piece : List ℕ) (at next : ℕ) : Type 
   pub within : next ≤ length piece
   pub number : begun_lines new + at ≤ begun_lines old + next
   pub ready : IsReady new.phase new.triples
-  pub closed : (end : End) → is_complete end old.phase ≡ false → is_complete end new.phase ≡ true
-      → new.begun ≡ false
+  pub closed : ClosesWhole old new
   pub stands : (end : End) (bytes : List ℕ) → IsAfter end old bytes
       → is_complete end old.phase ≡ false
       → IsAfter end new (bytes ++ take (next - at) (drop at piece))
+
+-- The machine got so many bytes of a piece: all, unless the matrix is read and what follows is not
+-- judged.
+pub record TakesPiece (end : End) (old new : Machine) (piece : List ℕ) (count : ℕ) : Type 0 where
+  pub within : count ≤ length piece
+  pub number : begun_lines new ≤ begun_lines old + count
+  pub whole : is_complete end new.phase ≡ false → count ≡ length piece
+  pub closed : is_complete end new.phase ≡ true → new.begun ≡ false
+  pub ready : IsReady new.phase new.triples
 
 -- the machine stops in what stands behind this place of a piece
 abbrev pub Halts : Machine → List ℕ → ℕ → Stop → Type 0

@@ -1,8 +1,8 @@
 -- The bytes of a source that were taken and are not used yet.
-use Rattle.std.specs.Prelude.{◌≡◌, ◌≤◌, ◌<◌, ◌+◌, ◌-◌, ◌^◌, ℕ, Bool, true, false, List, [], ◌++◌, length, take, drop, vec_len, if◌then◌else◌, Some, Result}
+use Rattle.std.specs.Prelude.{◌≡◌, ◌≤◌, ◌<◌, ◌+◌, ◌-◌, ◌^◌, ℕ, Bool, true, false, List, [], ◌++◌, length, take, drop, vec_len, IsTrue, IsFalse, Option, Some, Result}
 use Rattle.std.specs.List.{count_by}
 use Rattle.sp_ids.specs.Entries as entries
-use Rattle.sp_ports.specs.Bytes.{WhereKnown}
+use Rattle.sp_ports.specs.Bytes.{Gives, IsAtEnd, WhereKnown}
 use Rattle.sp_ports.specs.Device.{Device}
 use Rattle.mm_defs.specs.declared.answers.End.{End}
 use Rattle.mm_defs.specs.declared.answers.ReadError.{ReadError}
@@ -11,12 +11,13 @@ use Rattle.mm_defs.specs.Words.{lines, is_lf}
 use Rattle.mm_defs.specs.Faults.{is_limit}
 use Rattle.mm_defs.specs.File.{Fault, line_faults, first_fault, behind}
 use Rattle.mm_defs.specs.Calls.{Call, call_on, FellShort, IsAnswer, IsNear, LacksLines}
+use Rattle.mm_reader.specs.BadLines.{answer_to}
 use Rattle.mm_reader.specs.declared.machine.Machine.{Machine}
 use Rattle.mm_reader.specs.declared.machine.Stop.{Stop}
 use Rattle.mm_reader.specs.declared.machine.Stop.TheVariants as stops
 use Rattle.mm_reader.specs.declared.window.Window.{Window}
 use Rattle.mm_reader.specs.Machine.{IsReady, is_complete}
-use Rattle.mm_reader.specs.Stages.{begun_lines, IsAfter, EndsBad}
+use Rattle.mm_reader.specs.Stages.{begun_lines, IsAfter, EndsBad, StandsSomewhere}
 
 -- the bytes ahead
 abbrev pub ahead_of : Window → List ℕ
@@ -36,6 +37,21 @@ pub record IsWindow (w : Window) : Type 0 where
   pub asked : w.to ≤ w.from + w.room + 1
   pub in_room : 0 < w.room → IsInRoom w
 
+-- A read gave so many bytes, which are all that is ahead now, and none only at the end.
+pub record Refills (left_before left_after : Option (List ℕ)) (new : Window)
+    (count : ℕ) : Type 0 where
+  pub bytes : Gives left_before left_after (ahead_of new)
+  pub count_is : count ≡ length (ahead_of new)
+  pub some : IsFalse new.at_end → 0 < count
+  pub end : IsTrue new.at_end → IsAtEnd left_after
+
+-- A read failed: the source has what it had, and nothing is ahead.
+pub record StaysEmpty (left_before left_after : Option (List ℕ))
+    (old new : Window) : Type 0 where
+  pub kept : left_after ≡ left_before
+  pub same : new.at_end ≡ old.at_end
+  pub none : ahead_of new ≡ []
+
 -- so many of the bytes ahead were used, and their LFs counted
 pub record Uses (old new : Window) (n : ℕ) : Type 0 where
   pub some : n ≤ length (ahead_of old)
@@ -51,6 +67,13 @@ UsesSome old new = (n : ℕ) × Uses old new n
 -- the bytes ahead are one more than may be used
 abbrev pub IsOnePast : Window → Type 0
 IsOnePast w = length (ahead_of w) ≡ w.room + 1
+
+-- The machine may go on with so many bytes: it stands behind some, and its matrix is not read yet.
+pub record CanConsume (end : End) (m : Machine) (room : ℕ) : Type 0 where
+  pub ready : IsReady m.phase m.triples
+  pub unfinished : is_complete end m.phase ≡ false
+  pub number : begun_lines m + room < 2 ^ 64
+  pub stands : StandsSomewhere end m
 
 -- the machine got a prefix of the bytes ahead, and is ready for more or has its matrix
 pub record Consumes (end : End) (old new : Window) (before after : Machine)
@@ -99,10 +122,7 @@ RefusesAtEnd end bytes errors.OutOfMemory = Unit {0}
 
 -- how a stop is answered
 abbrev pub refusal_of : Stop → ReadError
-refusal_of (stops.Bad line kind) =
-    if is_limit kind
-    then errors.Limit line kind
-    else errors.Malformed line kind
+refusal_of (stops.Bad fault) = answer_to fault
 refusal_of stops.Memory = errors.OutOfMemory
 
 -- what holds of the call, where the source tells its bytes

@@ -1,11 +1,11 @@
 //! Reading a single byte.
 
-ghost use Rattle.std.specs.Prelude.{◌≡◌, ◌<◌, if◌then◌else◌, IfErr, IfOk, OnOk, IsTrue};
-ghost use Rattle.sp_ports.specs.Bytes.{IsAtEnd};
+ghost use Rattle.std.specs.Prelude.{◌≡◌, ◌<◌, if◌then◌else◌, IfErr, IfOk, OnOk};
 ghost use Rattle.sp_ports.specs.Device.{seen};
 ghost use Rattle.mm_defs.specs.Words.{is_lf};
 ghost use Rattle.mm_reader.specs.Fronts.{front_of, Advances, Stops, UsesFirst};
 ghost use Rattle.mm_reader.specs.Inputs.{FailsByReadFault};
+ghost use Rattle.mm_reader.specs.Readings.{AsksOnce, CanGoOn};
 ghost use Rattle.mm_reader.specs.Windows.{IsInRoom, IsWindow};
 
 use crate::window::{Window, advance, refill};
@@ -36,9 +36,8 @@ fn first(window: &mut Window) -> u8
 /// Uses the first of the bytes ahead and of those that the source gives, within the window's room.
 /// There is none at the end of the input alone.
 pub fn next<S: Source>(window: &mut Window, source: &mut S) -> Result<Option<u8>, ReadError>
-    requires window { IsWindow window.old }
+    requires can { CanGoOn (S.left source.old) window.old }
     requires in_room { IsInRoom window.old }
-    requires at_end { IsTrue window.old.at_end → IsAtEnd (S.left source.old) }
     ensures ok { IfOk result (Advances (front_of window.old) (front_of window.new)
         (seen S.left S.faults source.old source.new)) }
     ensures err { IfErr result (Stops (front_of window.old) (front_of window.new)
@@ -46,9 +45,7 @@ pub fn next<S: Source>(window: &mut Window, source: &mut S) -> Result<Option<u8>
     ensures window { IsWindow window.new }
     ensures in_room { OnOk result (IsInRoom window.new) }
     ensures cause { FailsByReadFault (seen S.left S.faults source.old source.new) result }
-    ensures at_end { IsTrue window.new.at_end → IsAtEnd (S.left source.new) }
-    ensures unasked { IsTrue window.old.at_end → source.new ≡ source.old }
-    ensures stays { IsTrue window.old.at_end → IsTrue window.new.at_end }
+    ensures asks { AsksOnce S.left source.old source.new window.old window.new }
 {
     if window.from < window.to {
         return Ok(Some(first(window)));

@@ -1,16 +1,11 @@
 //! Inputs: what callers see of the bytes ahead, and the calls that read them.
 
 ghost use Rattle.std.specs.Prelude.{◌≡◌, ◌≤◌, ◌<◌, ◌+◌, ◌^◌, ◌++◌, ◌↔◌, [], length, IfErr, IfOk, MatchResult, OnOk, IsOk, IsTrue, true, false};
-ghost use Rattle.std.specs.List.{count_by};
-ghost use Rattle.std.specs.Result.{IsErrOf};
-ghost use Rattle.sp_ports.specs.Bytes.{GivesPrefix, IsAtEnd, WhereKnown};
 ghost use Rattle.sp_ports.specs.Device.{seen};
-ghost use Rattle.mm_defs.specs.Words.{is_lf};
 ghost use Rattle.mm_reader.specs.EntryLimits.{AreWithinLimits};
 ghost use Rattle.mm_reader.specs.Fronts.{front, Advances, Stops};
 ghost use Rattle.mm_reader.specs.Inputs.{Asks, CanRead, Counts, Draws, EndsBy, FailsByReadFault, Fares, OnCall, Tells};
-ghost use Rattle.mm_defs.specs.File.{Fault};
-ghost use Rattle.mm_defs.specs.Calls.{room, first_bad, FellShort, HasItsKind, IsAnswer, IsNear, IsRest, JudgesNoLine, LacksLf, RefusesRest, TakesAtMostOnePast, IsAnswerTo};
+ghost use Rattle.mm_defs.specs.Calls.{room, HasItsKind, IsRest, JudgesNoLine, RefusesRest};
 
 use crate::bytes::next;
 use crate::reader::matrix;

@@ -11,7 +11,7 @@ ghost use Rattle.mm_defs.specs.Faults.{banner_rules, extent_rules, count_rules, 
 ghost use Rattle.mm_defs.specs.File.{triple, triple_at};
 ghost use Rattle.mm_reader.specs.Tokens.{capped, ReadsInteger};
 ghost use Rattle.mm_reader.specs.Lines.{IsLine};
-ghost use Rattle.mm_reader.specs.Judged.{Judged, JudgedEntry, JudgedPlace, Passes, IsHeader, IsWithin, range_rules};
+ghost use Rattle.mm_reader.specs.Judged.{Fits, Judged, JudgedEntry, JudgedPlace, Passes, IsHeader, IsWithin, range_rules};
 
 use crate::array::value_count;
 use crate::line::LineSoFar;
@@ -271,9 +271,7 @@ pub fn judge_entry(header: Header, size: Size, line: &LineSoFar) -> Result<Entry
     ensures judged { (bytes : List ℕ) → IsLine line.now bytes
         → JudgedEntry (coordinate_rules header size (words bytes)) (triple header (words bytes))
         result }
-    ensures inside { IfOk result (λ e. (e.row < size.rows) × (e.col < size.cols)) }
-    ensures value { IfOk result (λ e. is_integer_field header.field ≡ false → e.value ≡ pos 0) }
-    ensures small { IfOk result (λ e. nat_abs e.value ≤ MAX_VALUE) }
+    ensures fits { IfOk result (Fits header size) }
 {
     if !line.has_words(2 + value_words(header.field)) {
         return Err(Kind::EntryWords);
@@ -314,9 +312,7 @@ pub fn judge_place(
     ensures judged { (i j : ℕ) (w : Word) → row ≡ capped i → col ≡ capped j
         → (is_integer_field header.field ≡ true → ReadsInteger w value)
         → JudgedEntry (place_rules header size i j w) (triple_at header.field i j w) result }
-    ensures inside { IfOk result (λ e. (e.row < size.rows) × (e.col < size.cols)) }
-    ensures value { IfOk result (λ e. is_integer_field header.field ≡ false → e.value ≡ pos 0) }
-    ensures small { IfOk result (λ e. nat_abs e.value ≤ MAX_VALUE) }
+    ensures fits { IfOk result (Fits header size) }
 {
     let (row_id, col_id) = place_within(size.rows, size.cols, row, col)?;
     let value = value_of(header.field, value)?;

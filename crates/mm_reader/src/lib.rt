@@ -3,6 +3,7 @@
 #![tactic(auto)]
 
 mod array;
+mod bad;
 mod bytes;
 mod input;
 mod judge;
@@ -17,8 +18,8 @@ mod rest;
 mod text;
 mod window;
 
+pub use bad::BadLine;
 pub use input::{Input, next_byte, read_matrix, read_rest};
 pub use judge::place_within;
 pub use line::LineSoFar;
 pub use mm_defs::{End, Kind, ReadError};
-pub use reader::line_refusal;

@@ -8,14 +8,15 @@ ghost use Rattle.mm_defs.specs.Header.{is_general, is_integer_field};
 ghost use Rattle.mm_defs.specs.File.{Reads, mirror, placed, with_mirrors, line_faults, later_lines};
 ghost use Rattle.mm_reader.specs.Lines.{IsLine};
 ghost use Rattle.mm_reader.specs.EntryLimits.{AreWithinLimits};
-ghost use Rattle.mm_reader.specs.Judged.{IsHeader, triple_of};
+ghost use Rattle.mm_reader.specs.Judged.{Fits, IsHeader, triple_of};
 ghost use Rattle.mm_reader.specs.Machine.{HasBanner, HasLines, HasRoom, IsReady, Steps, StopsAt, TakesLine, is_complete};
-ghost use Rattle.mm_reader.specs.Stages.{begun_lines, IsBetween, IsAfter, IsAll, GoesOn, Halts, Lacks, StopsIn, StopsWithin, StopsAtEnd};
+ghost use Rattle.mm_reader.specs.Stages.{begun_lines, ClosesWhole, HasOpenLine, IsBetween, IsAfter, IsAll, GoesOn, Halts, Lacks, StopsIn, StopsWithin, StopsAtEnd, TakesPiece};
 ghost use Rattle.mm_reader.specs.Additions.{with_entries};
 ghost use Rattle.mm_reader.specs.Plain.{AwaitsPlain, IsPlainLine, IsPlainValue};
 ghost use Rattle.mm_reader.specs.ArrayPlaces.{place_of};
 
 use crate::array::{ArrayPlace, first_place, following};
+use crate::bad::BadLine;
 use crate::judge::{
     Entry, judge_banner, judge_entry, judge_integer, judge_place, judge_size, judge_value,
 };
@@ -54,7 +55,7 @@ pub struct Position {
 #[derive(Clone, Copy, Debug, PartialEq, Eq)]
 pub enum Stop {
     /// A line is bad.
-    Bad { line: u64, kind: Kind },
+    Bad(BadLine),
     /// There was not enough memory.
     Memory,
 }
@@ -82,7 +83,7 @@ fn after_banner(line: &LineSoFar) -> Result<Phase, Stop>
 {
     match judge_banner(line) {
         Ok(header) => Ok(Phase::Sizes { header }),
-        Err(kind) => Err(Stop::Bad { line: 1, kind }),
+        Err(kind) => Err(Stop::Bad(BadLine { line: 1, kind })),
     }
 }
 
@@ -106,7 +107,7 @@ fn after_size(
         return Ok(Phase::Sizes { header });
     }
     let size = match judge_size(header, line) {
-        Err(kind) => return Err(Stop::Bad { line: number, kind }),
+        Err(kind) => return Err(Stop::Bad(BadLine { line: number, kind })),
         Ok(size) => size,
     };
     match Triples::new(alloc, size.rows, size.cols, header.field) {
@@ -141,10 +142,10 @@ fn after_line(
         return Ok(at);
     }
     if at.done == preamble.size.count {
-        return Err(Stop::Bad {
+        return Err(Stop::Bad(BadLine {
             line: number,
             kind: Kind::Trailing,
-        });
+        }));
     }
     match preamble.header.format {
         Format::Coordinate => after_entry(preamble, at, line, number, triples),
@@ -170,7 +171,7 @@ fn after_entry(
     ensures ready { IfOk result (λ next. HasRoom preamble next triples.new) }
 {
     match judge_entry(preamble.header, preamble.size, line) {
-        Err(kind) => Err(Stop::Bad { line: number, kind }),
+        Err(kind) => Err(Stop::Bad(BadLine { line: number, kind })),
         Ok(entry) => keep_entry(preamble, at, entry, triples),
     }
 }
@@ -193,7 +194,7 @@ fn after_value(
     ensures ready { IfOk result (λ next. HasRoom preamble next triples.new) }
 {
     match judge_value(preamble.header, line) {
-        Err(kind) => Err(Stop::Bad { line: number, kind }),
+        Err(kind) => Err(Stop::Bad(BadLine { line: number, kind })),
         Ok(value) => keep_value(preamble, at, value, triples),
     }
 }
@@ -209,10 +210,7 @@ fn keep_entry(
     requires room { HasRoom preamble at triples.old }
     requires low { at.done < preamble.size.count }
     requires format { preamble.header.format ≡ Format.Coordinate }
-    requires row { entry.row < preamble.size.rows }
-    requires col { entry.col < preamble.size.cols }
-    requires value { is_integer_field preamble.header.field ≡ false → entry.value ≡ pos 0 }
-    requires small { nat_abs entry.value ≤ max_value }
+    requires fits { Fits preamble.header preamble.size entry }
     ensures entries { OnOk result
         (triples.new ≡ with_entries triples.old
         (triple_of entry ∷ mirror preamble.header.symmetry (triple_of entry))) }
@@ -376,9 +374,7 @@ fn end_line(alloc: Global, m: &mut Machine) -> Result<(), Stop>
     ensures number { OnOk result (begun_lines m.new ≡ m.old.number + 1) }
     ensures closed { OnOk result (m.new.begun ≡ false) }
     ensures steps { (end : End) (ls : List (List ℕ)) (bytes : List ℕ)
-        → IsLine m.old.line bytes
-        → HasLines end m.old.phase m.old.triples ls → m.old.number ≡ length ls
-        → is_complete end m.old.phase ≡ false
+        → HasOpenLine end m.old ls bytes → is_complete end m.old.phase ≡ false
         → MatchResult result (λ _. IsBetween end m.new (ls ++ bytes ∷ []))
         (StopsAt end (ls ++ bytes ∷ [])) }
 {
@@ -401,9 +397,7 @@ fn take(alloc: Global, m: &mut Machine, byte: u8) -> Result<(), Stop>
         → is_complete end m.old.phase ≡ false
         → MatchResult result (λ _. IsAfter end m.new (bytes ++ byte ∷ []))
         (StopsIn end (bytes ++ byte ∷ [])) }
-    ensures open { (end : End)
-        → OnOk result (is_complete end m.old.phase ≡ false → is_complete end m.new.phase ≡ true
-        → m.new.begun ≡ false) }
+    ensures closed { OnOk result (ClosesWhole m.old m.new) }
 {
     if byte == b'\n' {
         return end_line(alloc, m);
@@ -451,7 +445,7 @@ fn after_plain(
         plain.col,
         Some(plain.value),
     ) {
-        Err(kind) => Err(Stop::Bad { line: number, kind }),
+        Err(kind) => Err(Stop::Bad(BadLine { line: number, kind })),
         Ok(entry) => keep_entry(preamble, at, entry, triples),
     }
 }
@@ -473,7 +467,7 @@ fn after_plain_value(
     ensures done { IfOk result (λ next. next.done ≡ at.done + 1) }
 {
     match judge_integer(Some(plain.value)) {
-        Err(kind) => Err(Stop::Bad { line: number, kind }),
+        Err(kind) => Err(Stop::Bad(BadLine { line: number, kind })),
         Ok(value) => keep_value(preamble, at, value, triples),
     }
 }
@@ -592,11 +586,7 @@ pub fn feed(alloc: Global, m: &mut Machine, end: End, piece: &[u8]) -> Result<us
     requires ready { IsReady m.old.phase m.old.triples }
     requires room { begun_lines m.old + length piece.now < 2 ^ 64 }
     requires open { is_complete end m.old.phase ≡ false }
-    ensures ready { OnOk result (IsReady m.new.phase m.new.triples) }
-    ensures used { IfOk result (λ n. n ≤ length piece.now) }
-    ensures number { IfOk result (λ n. begun_lines m.new ≤ begun_lines m.old + n) }
-    ensures whole { IfOk result (λ n. is_complete end m.new.phase ≡ false → n ≡ length piece.now) }
-    ensures closed { OnOk result (is_complete end m.new.phase ≡ true → m.new.begun ≡ false) }
+    ensures ok { IfOk result (TakesPiece end m.old m.new piece.now) }
     ensures steps { (bytes : List ℕ) → IsAfter end m.old bytes
         → MatchResult result (λ n. IsAfter end m.new (bytes ++ take n piece.now))
         (StopsWithin end bytes piece.now) }
@@ -635,20 +625,20 @@ fn missing(phase: Phase, number: u64) -> Result<(), Stop>
     ensures within { (t : Entries) → IsReady phase t → OnOk result (AreWithinLimits t) }
 {
     match phase {
-        Phase::Banner => Err(Stop::Bad {
+        Phase::Banner => Err(Stop::Bad(BadLine {
             line: 1,
             kind: Kind::NoBanner,
-        }),
-        Phase::Sizes { .. } => Err(Stop::Bad {
+        })),
+        Phase::Sizes { .. } => Err(Stop::Bad(BadLine {
             line: number,
             kind: Kind::NoSize,
-        }),
+        })),
         Phase::Entries { preamble, at } => {
             if at.done < preamble.size.count {
-                return Err(Stop::Bad {
+                return Err(Stop::Bad(BadLine {
                     line: number,
                     kind: Kind::MissingEntries,
-                });
+                }));
             }
             Ok(())
         }

@@ -1,45 +1,29 @@
 //! Reading a matrix from the bytes ahead and from a source.
 
-ghost use Rattle.std.specs.Prelude.{◌≡◌, ◌<◌, ◌+◌, ◌++◌, ◌^◌, if◌then◌else◌, ℕ, List, false, IfOk, IfErr, MatchResult, OnOk, IsTrue, []};
+ghost use Rattle.std.specs.Prelude.{◌≡◌, ◌<◌, ◌^◌, ℕ, List, false, IfOk, IfErr, MatchResult, OnOk, []};
 ghost use Rattle.std.specs.Result.{IsErrOf};
-ghost use Rattle.sp_ports.specs.Bytes.{IsAtEnd};
 ghost use Rattle.sp_ports.specs.Device.{seen};
-ghost use Rattle.mm_defs.specs.Faults.{is_limit};
 ghost use Rattle.mm_defs.specs.File.{Reads};
 ghost use Rattle.mm_defs.specs.Calls.{HasItsKind};
 ghost use Rattle.mm_reader.specs.EntryLimits.{AreWithinLimits};
 ghost use Rattle.mm_reader.specs.Machine.{IsReady, is_complete};
-ghost use Rattle.mm_reader.specs.Readings.{EndsFor, HasCause, Leaves};
-ghost use Rattle.mm_reader.specs.Stages.{begun_lines, IsAfter, StandsSomewhere};
-ghost use Rattle.mm_reader.specs.Windows.{ahead_of, OnCallOf, Answers, IsInRoom, IsOnePast, IsWindow, Consumes, Refuses, RefusesAtEnd, refusal_of, UsesSome};
+ghost use Rattle.mm_reader.specs.Readings.{CanGoOn, EndsFor, HasCause, Leaves};
+ghost use Rattle.mm_reader.specs.Stages.{begun_lines, IsAfter};
+ghost use Rattle.mm_reader.specs.Windows.{ahead_of, OnCallOf, Answers, CanConsume, IsInRoom, IsOnePast, IsWindow, Consumes, Refuses, RefusesAtEnd, refusal_of, UsesSome};
 
 use crate::machine::{Machine, Stop, feed, finish, is_complete, start};
 use crate::window::{Window, advance, refill};
-use mm_defs::{End, Kind, ReadError};
+use mm_defs::{End, ReadError};
 use sp_ids::Triples;
 use sp_ports::Source;
 use std::alloc::Global;
-
-/// The answer to the bad line of this number, counted from 1: `Limit` where the kind is that it
-/// passes a limit, and else `Malformed`.
-pub fn line_refusal(line: u64, kind: Kind) -> ReadError
-    ensures { result ≡ (if is_limit kind
-        then ReadError.Limit line kind
-        else ReadError.Malformed line kind) }
-{
-    if kind.is_limit() {
-        ReadError::Limit { line, kind }
-    } else {
-        ReadError::Malformed { line, kind }
-    }
-}
 
 /// The answer to what stopped the machine.
 fn refusal(stop: Stop) -> ReadError
     ensures { result ≡ refusal_of stop }
 {
     match stop {
-        Stop::Bad { line, kind } => line_refusal(line, kind),
+        Stop::Bad(bad) => bad.answer(),
         Stop::Memory => ReadError::OutOfMemory,
     }
 }
@@ -48,10 +32,7 @@ fn refusal(stop: Stop) -> ReadError
 /// read and what follows is not judged; else all bytes ahead were used.
 fn consume(alloc: Global, m: &mut Machine, end: End, window: &mut Window) -> Result<bool, ReadError>
     requires window { IsWindow window.old }
-    requires ready { IsReady m.old.phase m.old.triples }
-    requires open { is_complete end m.old.phase ≡ false }
-    requires number { begun_lines m.old + window.old.room < 2 ^ 64 }
-    requires stands { StandsSomewhere end m.old }
+    requires can { CanConsume end m.old window.old.room }
     ensures window { IsWindow window.new }
     ensures ok { IfOk result (Consumes end window.old window.new m.old m.new) }
     ensures in_room { OnOk result (IsInRoom window.new) }
@@ -104,8 +85,7 @@ pub fn matrix<S: Source>(
     source: &mut S,
     end: End,
 ) -> Result<Triples, ReadError>
-    requires window { IsWindow window.old }
-    requires at_end { IsTrue window.old.at_end → IsAtEnd (S.left source.old) }
+    requires { CanGoOn (S.left source.old) window.old }
     ensures known { OnCallOf window.old (seen S.left S.faults source.old source.new) (λ call.
         Answers end call window.new result) }
     ensures kind { HasItsKind result }

@@ -2,11 +2,10 @@
 
 ghost use Rattle.std.specs.Prelude.{◌≡◌, ◌++◌, IfErr, MatchResult, OnErr, OnOk, IsTrue};
 ghost use Rattle.std.specs.List.{count_by};
-ghost use Rattle.sp_ports.specs.Bytes.{IsAtEnd};
 ghost use Rattle.sp_ports.specs.Device.{seen};
 ghost use Rattle.mm_defs.specs.Words.{is_lf};
 ghost use Rattle.mm_defs.specs.Calls.{IsRest, JudgesNoLine, RefusesRest};
-ghost use Rattle.mm_reader.specs.Readings.{HasCause, Leaves};
+ghost use Rattle.mm_reader.specs.Readings.{CanGoOn, HasCause, Leaves};
 ghost use Rattle.mm_reader.specs.Windows.{ahead_of, OnCallOf, IsInRoom, IsWindow, KeepsWindow, TakesAhead, RefusesAhead};
 
 use crate::window::{Window, refill};
@@ -52,8 +51,7 @@ pub fn rest<S: Source>(
     window: &mut Window,
     source: &mut S,
 ) -> Result<Vec<u8>, ReadError>
-    requires window { IsWindow window.old }
-    requires at_end { IsTrue window.old.at_end → IsAtEnd (S.left source.old) }
+    requires { CanGoOn (S.left source.old) window.old }
     ensures known { OnCallOf window.old (seen S.left S.faults source.old source.new) (λ call.
         MatchResult result (λ v. IsRest call (ahead_of window.new ++ call.after) v.items)
         (RefusesRest call)) }

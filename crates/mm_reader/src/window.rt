@@ -1,11 +1,11 @@
 //! The bytes that were taken from a source and are not used yet.
 
-ghost use Rattle.std.specs.Prelude.{◌≡◌, ◌≤◌, ◌<◌, ◌+◌, [], take, length, vec_len, IfOk, OnErr, IsTrue, IsFalse};
+ghost use Rattle.std.specs.Prelude.{◌≡◌, ◌≤◌, ◌<◌, ◌+◌, take, length, vec_len, IfOk, OnErr};
 ghost use Rattle.std.specs.List.{count_by};
 ghost use Rattle.sp_ports.specs.Bytes.{Gives, IsAtEnd};
 ghost use Rattle.sp_ports.specs.Device.{FailsByReads, seen};
 ghost use Rattle.mm_defs.specs.Words.{is_lf};
-ghost use Rattle.mm_reader.specs.Windows.{ahead_of, IsInRoom, IsWindow, Uses};
+ghost use Rattle.mm_reader.specs.Windows.{ahead_of, IsInRoom, IsWindow, Refills, StaysEmpty, Uses};
 
 use sp_ids::OutOfMemory;
 use sp_ports::{Failed, Source};
@@ -89,14 +89,9 @@ fn read_some<S: Source>(source: &mut S, buffer: &mut [u8], most: usize) -> Resul
 pub fn refill<S: Source>(window: &mut Window, source: &mut S) -> Result<usize, Failed>
     requires window { IsWindow window.old }
     ensures window { IsWindow window.new }
-    ensures bytes { IfOk result
-        (λ k. Gives (S.left source.old) (S.left source.new) (ahead_of window.new)) }
-    ensures count { IfOk result (λ k. k ≡ length (ahead_of window.new)) }
-    ensures some { IfOk result (λ k. IsFalse window.new.at_end → 0 < k) }
-    ensures end { IfOk result (λ k. IsTrue window.new.at_end → IsAtEnd (S.left source.new)) }
-    ensures kept { OnErr result (S.left source.new ≡ S.left source.old) }
-    ensures same { OnErr result (window.new.at_end ≡ window.old.at_end) }
-    ensures none { OnErr result (ahead_of window.new ≡ []) }
+    ensures ok { IfOk result (Refills (S.left source.old) (S.left source.new) window.new) }
+    ensures err { OnErr result
+        (StaysEmpty (S.left source.old) (S.left source.new) window.old window.new) }
     ensures cause { FailsByReads (seen S.left S.faults source.old source.new) result }
     ensures room { window.new.room ≡ window.old.room }
     ensures lines { window.new.lines ≡ window.old.lines }

@@ -1,10 +1,10 @@
 //! Sinks in memory.
 
-ghost use Rattle.std.specs.Prelude.{◌≡◌, ◌<◌, ◌≤◌, ◌+◌, ◌-◌, ◌^◌, ◌++◌, ◌↔◌, ◌⊎◌, [], min, take, length, nat_lt, false, ◌||◌, IsOk, IsErr, IfOk, OnOk, OnErr, Contains};
+ghost use Rattle.std.specs.Prelude.{◌≡◌, ◌<◌, ◌≤◌, ◌-◌, ◌++◌, ◌↔◌, ◌⊎◌, [], min, take, length, false, IsOk, IsErr, IfOk, OnOk, OnErr, Contains};
 ghost use Rattle.std.specs.Vec.{vec_capacity};
 ghost use Rattle.sp_ports.specs.Bytes.{Takes};
 ghost use Rattle.sp_ports.specs.Device.{FailsByWrites, seen};
-ghost use Rattle.sp_ports.specs.InMemory.{bytes_of, failures_of, number_after, kept_bytes};
+ghost use Rattle.sp_ports.specs.InMemory.{Drops, Keeps, after_failed_write, after_taking, bytes_of, count_taken, failures_of, kept_bytes, number_after};
 
 use crate::calls::Numbers;
 use crate::{Failed, Sink};
@@ -97,18 +97,10 @@ impl Sink for MemSink {
     fn write(&mut self, piece: &[u8]) -> Result<usize, Failed>
         ensures fails { IsErr result
             ↔ (Contains self.old.failing self.old.next ⊎ (length self.old.taken ≡ self.old.room)) }
-        ensures count { IfOk result
-            (λ k. k ≡ min (length piece.now)
-            (min self.old.piece (self.old.room - length self.old.taken))) }
+        ensures count { IfOk result (λ k. k ≡ count_taken self.old piece.now) }
         ensures some { IfOk result (λ k. 0 < length piece.now → 0 < k) }
-        ensures ok { IfOk result
-            (λ k. self.new ≡ record self.old
-            { taken = self.old.taken ++ take k piece.now; next = number_after self.old.next }) }
-        ensures err { OnErr result
-            (self.new ≡ record self.old {
-              next = number_after self.old.next;
-              failed = min (self.old.failed + 1) (2 ^ 64 - 1);
-            }) }
+        ensures ok { IfOk result (λ k. self.new ≡ after_taking self.old (take k piece.now)) }
+        ensures err { OnErr result (self.new ≡ after_failed_write self.old) }
         ensures cause { FailsByWrites (seen bytes_of failures_of self.old self.new) result }
     {
         if self.calls.fails_next() {
@@ -127,11 +119,7 @@ impl Sink for MemSink {
         ensures fails { IsErr result ↔ Contains self.old.failing self.old.next }
         ensures ok { OnOk result
             (self.new ≡ record self.old { next = number_after self.old.next }) }
-        ensures err { OnErr result
-            (self.new ≡ record self.old {
-              next = number_after self.old.next;
-              failed = min (self.old.failed + 1) (2 ^ 64 - 1);
-            }) }
+        ensures err { OnErr result (self.new ≡ after_failed_write self.old) }
         ensures cause { FailsByWrites (seen bytes_of failures_of self.old self.new) result }
     {
         if self.calls.fails_next() {
@@ -220,12 +208,10 @@ impl Sink for SteadySink {
         ensures bound { IfOk result (λ k. k ≤ length piece.now) }
         ensures bytes { IfOk result
             (λ k. Takes (kept_bytes self.old) (kept_bytes self.new) (take k piece.now)) }
-        ensures keeps { IfOk result (λ k. length self.old.kept < self.old.room →
-            (k ≡ min (length piece.now) (min self.old.piece (self.old.room - length self.old.kept)))
-            × (self.new ≡ record self.old { kept = self.old.kept ++ take k piece.now })) }
-        ensures drops { IfOk result (λ k. length self.old.kept ≡ self.old.room →
-            (k ≡ min (length piece.now) self.old.piece)
-            × (self.new ≡ record self.old { dropped = self.old.dropped || nat_lt 0 k })) }
+        ensures keeps { IfOk result
+            (λ k. length self.old.kept < self.old.room → Keeps self.old self.new piece.now k) }
+        ensures drops { IfOk result
+            (λ k. length self.old.kept ≡ self.old.room → Drops self.old self.new piece.now k) }
     {
         if self.kept.len() < self.room {
             return Ok(keep(&mut self.kept, self.room, self.piece, piece));

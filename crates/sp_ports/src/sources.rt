@@ -1,7 +1,7 @@
 //! Sources in memory.
 
 ghost use Rattle.std.specs.Prelude.{◌≡◌, ◌<◌, ◌≤◌, ◌+◌, ◌↔◌, [], min, take, drop, length, Some, IsOk, IsErr, IfOk, OnErr, Contains};
-ghost use Rattle.sp_ports.specs.InMemory.{number_after};
+ghost use Rattle.sp_ports.specs.InMemory.{after_failed_read, after_giving};
 
 use crate::calls::Numbers;
 use crate::{Failed, Source};
@@ -78,12 +78,8 @@ impl Source for MemSource {
         ensures count { IfOk result
             (λ k. k ≡ min (length self.old.left) (min self.old.piece (length buf.old))) }
         ensures bytes { IfOk result (λ k. take k buf.new ≡ take k self.old.left) }
-        ensures ok { IfOk result
-            (λ k. self.new ≡ record self.old
-            { left = drop k self.old.left; next = number_after self.old.next }) }
-        ensures err { OnErr result
-            (self.new ≡ record self.old
-            { next = number_after self.old.next; failed = self.old.failed + 1 }) }
+        ensures ok { IfOk result (λ k. self.new ≡ after_giving self.old k) }
+        ensures err { OnErr result (self.new ≡ after_failed_read self.old) }
         // No bytes come only at the end, or into no room.
         ensures end { IfOk result (λ k. k ≡ 0 → 0 < length buf.old → self.old.left ≡ []) }
     {

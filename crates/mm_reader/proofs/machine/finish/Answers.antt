@@ -21,12 +21,12 @@ returns-in_err-end_line-clause-steps c end bytes h out =
     let begun : has_bytes (open_line bytes) ≡ true = sym h.begun_is ∙ c.if-not-m.false in
     let p = err_from_is_err_and c.from_residual.result c.from_residual.ensures.1 in
     rw (p.1, p.2)
-    (stop_begun end bytes c.in_err-end_line.field-0.0 begun (c.in_err-end_line.ensures.steps end (lines false bytes) (open_line bytes) h.open_is h.lines_are h.number_is out))
+    (stop_begun end bytes c.in_err-end_line.field-0.0 begun (c.in_err-end_line.ensures.steps end (lines false bytes) (open_line bytes) (record { lines_are = h.lines_are; number_is = h.number_is; open_is = h.open_is }) out))
 
 pub returns-clause-steps : goal.returns-clause-steps
 returns-clause-steps c end bytes h out =
     let begun : has_bytes (open_line bytes) ≡ true = sym h.begun_is ∙ c.if-not-m.false in
-    let b = c.in_ok-end_line.ensures.steps end (lines false bytes) (open_line bytes) h.open_is h.lines_are h.number_is out in
+    let b = c.in_ok-end_line.ensures.steps end (lines false bytes) (open_line bytes) (record { lines_are = h.lines_are; number_is = h.number_is; open_is = h.open_is }) out in
     map_result (λ _. IsAll end c.end_line.new.m.phase c.end_line.new.m.triples (lines false bytes ++ open_line bytes ∷ [])) (λ _. Reads bytes end c.end_line.new.m.triples [])
     (Lacks end (lines false bytes ++ open_line bytes ∷ [])) (StopsAtEnd end bytes) c.missing-2.result
     (λ _ k. whole_begun end bytes c.end_line.new.m.phase c.end_line.new.m.triples begun k)

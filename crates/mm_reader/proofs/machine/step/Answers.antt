@@ -20,4 +20,4 @@ returns-clause-ok c =
     let same : c.take_plain.new.m ≡ c.args.m.now = c.in_ok-next.ensures.same (omega (arith, c.if-next-at.false, c.in_ok-next.ensures.ok.in_order)) in
     let e = c.in_ok-take.ensures in
     subst (λ (m : Machine). GoesOn m c.take.new.m c.args.piece.now c.args.at (c.args.at + 1)) same
-    (byte_goes c.take_plain.new.m c.take.new.m c.args.piece.now c.args.at c.requires.place e.number e.ready e.open e.steps)
+    (byte_goes c.take_plain.new.m c.take.new.m c.args.piece.now c.args.at c.requires.place e.number e.ready e.closed e.steps)

@@ -11,7 +11,7 @@ returns-then-byte-eq10-clause-steps c end bytes h out =
     (StopsAt end (lines false bytes ++ open_line bytes ∷ [])) (StopsIn end (bytes ++ c.args.byte ∷ [])) c.end_line.result
     (λ _ k. lf_comes end c.end_line.new.m bytes c.args.byte c.if-byte-eq10.true k)
     (λ stop k. lf_stops end bytes c.args.byte stop c.if-byte-eq10.true k)
-    (c.end_line.ensures.steps end (lines false bytes) (open_line bytes) h.open_is h.lines_are h.number_is out)
+    (c.end_line.ensures.steps end (lines false bytes) (open_line bytes) (record { lines_are = h.lines_are; number_is = h.number_is; open_is = h.open_is }) out)
 
 pub returns-clause-steps : goal.returns-clause-steps
 returns-clause-steps c end bytes h out = byte_comes end c.args.m.now c.push.new.self bytes c.args.byte c.if-byte-eq10.false h (c.push.ensures (open_line bytes) h.open_is)

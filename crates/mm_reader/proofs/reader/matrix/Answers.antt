@@ -25,8 +25,15 @@ returns-in-Err g c =
       ends = tt;
     }
 
-pub consume-requires-clause-stands : goal.consume-requires-clause-stands
-consume-requires-clause-stands g c = (c.reading.invariant.fed.used, c.reading.invariant.fed.stands)
+pub consume-requires-clause-can : goal.consume-requires-clause-can
+consume-requires-clause-can g c =
+    let i = c.reading.invariant in
+    record {
+      ready = i.ready;
+      unfinished = i.open_now;
+      number = omega (arith, i.window.fits, i.number);
+      stands = (i.fed.used, i.fed.stands);
+    }
 
 pub returns-in_err-done : goal.returns-in_err-done
 returns-in_err-done g c =
@@ -104,15 +111,15 @@ returns-in-Err-refill g c =
     let f = fed_consumed c.args.end c.args.window.now c.reading.window c.consume.new.window (g.S.Source.left c.args.source.now) (g.S.Source.left c.reading.source) c.reading.m c.consume.new.m c.in_ok-done.done i.fed e.ok in
     let r = c.in-Err-refill.ensures in
     let none = e.ok.all c.if-done.false in
-    let h = not_refilled c.args.window.now c.consume.new.window c.refill.new.window (g.S.Source.left c.args.source.now) (g.S.Source.left c.reading.source) f.used f.so_far (g.S.Source.left c.refill.new.source) none r.kept r.none r.room r.lines in
+    let h = not_refilled c.args.window.now c.consume.new.window c.refill.new.window (g.S.Source.left c.args.source.now) (g.S.Source.left c.reading.source) f.used f.so_far (g.S.Source.left c.refill.new.source) none r.err.kept r.err.none r.room r.lines in
     let s : SourceRose (g.S.Source.left c.args.source.now) (g.S.Source.faults c.args.source.now) (g.S.Source.faults c.refill.new.source) =
     rose_since (g.S.Source.left c.args.source.now) (g.S.Source.left c.reading.source) i.fed.so_far.gave _ (g.S.Source.faults c.reading.source) _ i.fed.so_far.known i.steady r.cause.failed in
     record {
-      known = rw r.kept (exit_fault c.args.end c.args.window.now (g.S.Source.faults c.args.source.now) (g.S.Source.faults c.refill.new.source) c.consume.new.m c.consume.new.window e.window c.refill.new.window
+      known = rw r.err.kept (exit_fault c.args.end c.args.window.now (g.S.Source.faults c.args.source.now) (g.S.Source.faults c.refill.new.source) c.consume.new.m c.consume.new.window e.window c.refill.new.window
           (g.S.Source.left c.args.source.now) (g.S.Source.left c.reading.source) f none (sym e.ok.done_is ∙ c.if-done.false) s);
       kind = tt;
       within = tt;
-      leaves = leaves _ g.S.Source.faults _ _ _ _ _ h r.window (asks_more (asks_same {w2 = c.consume.new.window} i.asks u.at_end_same) c.if-window.false (λ t. rw r.kept (i.asks.at_end (rw (← u.at_end_same, ← r.same) t))));
+      leaves = leaves _ g.S.Source.faults _ _ _ _ _ h r.window (asks_more (asks_same {w2 = c.consume.new.window} i.asks u.at_end_same) c.if-window.false (λ t. rw r.err.kept (i.asks.at_end (rw (← u.at_end_same, ← r.err.same) t))));
       cause = record {
         fault = record { counts = omega (arith, i.steady, r.cause.counts); steady = tt; failed = λ x. s };
         past = λ x. absurd cc;
@@ -146,9 +153,9 @@ reading-preserved g c =
       ready = e.ok.ready;
       open_now = sym e.ok.done_is ∙ c.if-done.false;
       number = omega (arith, r.room, e.ok.number, e.ok.uses.room_is, i.number);
-      asks = asks_more (asks_same {w2 = c.consume.new.window} i.asks u.at_end_same) c.if-window.false r.end;
+      asks = asks_more (asks_same {w2 = c.consume.new.window} i.asks u.at_end_same) c.if-window.false r.ok.end;
       steady = r.cause.steady ∙ i.steady;
-      fed = fed_refilled c.args.end c.args.window.now c.consume.new.window c.refill.new.window _ _ _ c.consume.new.m f (e.ok.all c.if-done.false) r.bytes r.room r.lines;
+      fed = fed_refilled c.args.end c.args.window.now c.consume.new.window c.refill.new.window _ _ _ c.consume.new.m f (e.ok.all c.if-done.false) r.ok.bytes r.room r.lines;
     }
 
 pub reading-smaller : goal.reading-smaller
@@ -158,4 +165,4 @@ reading-smaller g c =
     let r = c.in_default.ensures in
     turn_smaller c.reading.window c.consume.new.window c.refill.new.window e.ok.count i.window r.window e.ok.uses.room_is
     (all_used (ahead_of c.reading.window) (ahead_of c.consume.new.window) e.ok.count e.ok.uses.some e.ok.uses.ahead_is (e.ok.all c.if-done.false))
-    (sym e.ok.uses.at_end_same ∙ c.if-window.false) r.room (λ x. subst (λ k. 0 < k) r.count (r.some x))
+    (sym e.ok.uses.at_end_same ∙ c.if-window.false) r.room (λ x. subst (λ k. 0 < k) r.ok.count_is (r.ok.some x))

@@ -50,13 +50,13 @@ returns-in-Err g c =
     let e = c.in_ok-take_ahead.ensures in
     let k = all_taken c.args.window.now c.reading.window c.take_ahead.new.window (g.S.Source.left c.args.source.now) (g.S.Source.left c.reading.source) c.reading.bytes.items i.so_far c.take_ahead.new.bytes.items e.ok in
     let r = c.in-Err.ensures in
-    let h = not_refilled c.args.window.now c.take_ahead.new.window c.refill.new.window (g.S.Source.left c.args.source.now) (g.S.Source.left c.reading.source) c.take_ahead.new.bytes.items k (g.S.Source.left c.refill.new.source) e.ok.ahead_is r.kept r.none r.room r.lines in
+    let h = not_refilled c.args.window.now c.take_ahead.new.window c.refill.new.window (g.S.Source.left c.args.source.now) (g.S.Source.left c.reading.source) c.take_ahead.new.bytes.items k (g.S.Source.left c.refill.new.source) e.ok.ahead_is r.err.kept r.err.none r.room r.lines in
     let s : SourceRose (g.S.Source.left c.args.source.now) (g.S.Source.faults c.args.source.now) (g.S.Source.faults c.refill.new.source) =
     rose_since (g.S.Source.left c.args.source.now) (g.S.Source.left c.reading.source) i.so_far.gave _ (g.S.Source.faults c.reading.source) _ i.so_far.known i.steady r.cause.failed in
     record {
-      known = rest_fault c.args.window.now (g.S.Source.faults c.args.source.now) (g.S.Source.faults c.refill.new.source) c.take_ahead.new.bytes.items c.refill.new.window _ _ h r.none s;
+      known = rest_fault c.args.window.now (g.S.Source.faults c.args.source.now) (g.S.Source.faults c.refill.new.source) c.take_ahead.new.bytes.items c.refill.new.window _ _ h r.err.none s;
       unjudged = tt;
-      leaves = leaves _ g.S.Source.faults _ _ _ _ _ h r.window (asks_more (asks_same {w2 = c.take_ahead.new.window} i.asks e.at_end) c.if-window.false (λ t. rw r.kept (i.asks.at_end (rw (← e.at_end, ← r.same) t))));
+      leaves = leaves _ g.S.Source.faults _ _ _ _ _ h r.window (asks_more (asks_same {w2 = c.take_ahead.new.window} i.asks e.at_end) c.if-window.false (λ t. rw r.err.kept (i.asks.at_end (rw (← e.at_end, ← r.err.same) t))));
       cause = record {
         fault = record { counts = omega (arith, i.steady, r.cause.counts); steady = tt; failed = λ x. s };
         past = λ x. absurd cc;
@@ -81,9 +81,9 @@ reading-preserved g c =
     let r = c.in_default.ensures in
     record {
       window = r.window;
-      asks = asks_more (asks_same {w2 = c.take_ahead.new.window} i.asks e.at_end) c.if-window.false r.end;
+      asks = asks_more (asks_same {w2 = c.take_ahead.new.window} i.asks e.at_end) c.if-window.false r.ok.end;
       steady = r.cause.steady ∙ i.steady;
-      so_far = refilled c.args.window.now c.take_ahead.new.window c.refill.new.window _ _ c.take_ahead.new.bytes.items k _ e.ok.ahead_is r.bytes r.room r.lines;
+      so_far = refilled c.args.window.now c.take_ahead.new.window c.refill.new.window _ _ c.take_ahead.new.bytes.items k _ e.ok.ahead_is r.ok.bytes r.room r.lines;
     }
 
 pub reading-smaller : goal.reading-smaller
@@ -91,4 +91,4 @@ reading-smaller g c =
     let i = c.reading.invariant in
     let e = c.in_ok-take_ahead.ensures in
     let r = c.in_default.ensures in
-    turn_smaller c.reading.window c.take_ahead.new.window c.refill.new.window _ i.window r.window e.ok.room_is refl (sym e.at_end ∙ c.if-window.false) r.room (λ x. subst (λ k. 0 < k) r.count (r.some x))
+    turn_smaller c.reading.window c.take_ahead.new.window c.refill.new.window _ i.window r.window e.ok.room_is refl (sym e.at_end ∙ c.if-window.false) r.room (λ x. subst (λ k. 0 < k) r.ok.count_is (r.ok.some x))
