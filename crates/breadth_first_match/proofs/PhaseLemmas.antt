@@ -1,5 +1,5 @@
 -- Phases that go on until one finds nothing.
-use Rattle.std.proofs.Common.{◌≡◌, ◌⊎◌, ◌↔◌, ◌∙◌, ℕ, ◌+◌, ◌-◌, ◌<◌, Bool, true, false, if◌then◌else◌, IsTrue, length, refl, sym, ap, true≢false, subst, inl, inr, arith}
+use Rattle.std.proofs.Common.{◌≡◌, ◌⊎◌, ◌↔◌, ◌∙◌, ◌+◌, ◌-◌, ◌<◌, Bool, true, false, if◌then◌else◌, IsTrue, length, refl, sym, ap, true≢false, subst, inl, inr, arith}
 use Rattle.std.specs.Bool.{OnFalse}
 use Rattle.bip_defs.specs.Matching.{IsMatching, IsMaximum}
 use Rattle.bip_defs.specs.Matrix.{Matrix, cols}

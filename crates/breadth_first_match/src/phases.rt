@@ -1,12 +1,11 @@
 //! Breadth-first phases from one side, and then those of shortest paths.
 
-ghost use Rattle.std.specs.Bool.{OnFalse};
-ghost use Rattle.std.specs.Prelude.{◌≡◌, ◌↔◌, ◌<◌, length, IfOk, IsTrue};
+ghost use Rattle.std.specs.Prelude.{IfOk};
 ghost use Rattle.bip_defs.specs.Matching.{Covers};
-ghost use Rattle.bip_defs.specs.Matrix.{cols};
 ghost use Rattle.bip_defs.specs.Parts.{MarkHorizontalRows};
 ghost use Rattle.bip_graph.specs.Matching.{IsMatchingOf, IsMaximumOf};
-ghost use Rattle.path_search.specs.Growth.{GrowsUnlessMaximum};
+ghost use Rattle.path_search.specs.Forests.{CanGrow};
+ghost use Rattle.breadth_first_match.specs.Phases.{EndsPhase};
 
 use crate::shortest::complete_by_shortest;
 use bip_graph::{Matching, Opposite};
@@ -70,20 +69,11 @@ fn grow<F: Opposite, S: Side<F>>(
     side: &S,
     matching: &mut Matching,
 ) -> bool
-    requires matching { IsMatchingOf (S.matrix side.now) (F.seen matching.old) }
-    requires rows { length forest.old.marks ≡ (S.matrix side.now).rows }
-    requires cols { forest.old.cols ≡ cols (S.matrix side.now) }
-    ensures matching { IsMatchingOf (S.matrix side.now) (F.seen matching.new) }
-    ensures rows { length forest.new.marks ≡ length forest.old.marks }
-    ensures cols { forest.new.cols ≡ forest.old.cols }
+    requires ready { CanGrow (S.matrix side.now) (F.seen matching.old) forest.old }
+    ensures ready { CanGrow (S.matrix side.now) (F.seen matching.new) forest.new }
     ensures covered { Covers (F.seen matching.old).pairs (F.seen matching.new).pairs }
-    ensures grown { IsTrue result
-        ↔ (length (F.seen matching.old).pairs < length (F.seen matching.new).pairs) }
-
-    // Where the matching hasn't grown it was maximum, and the marked rows are the horizontal rows.
-    ensures maximum { GrowsUnlessMaximum (S.matrix side.now) (F.seen matching.old)
-        (F.seen matching.new) }
-    ensures marks { OnFalse result (MarkHorizontalRows (S.matrix side.now) forest.new.marks) }
+    ensures phase { EndsPhase (S.matrix side.now) (F.seen matching.old) (F.seen matching.new)
+        forest.new.marks result }
 {
     let before = F::size(matching);
     forest.sweep(side, matching);

@@ -1,11 +1,10 @@
 //! Phases of shortest augmenting paths alone.
 
-ghost use Rattle.std.specs.Bool.{OnFalse};
-ghost use Rattle.std.specs.Prelude.{◌↔◌, ◌<◌, length, IfOk, IsTrue};
+ghost use Rattle.std.specs.Prelude.{IfOk};
 ghost use Rattle.bip_defs.specs.Matching.{Covers};
 ghost use Rattle.bip_defs.specs.Parts.{MarkHorizontalRows};
 ghost use Rattle.bip_graph.specs.Matching.{IsMatchingOf, IsMaximumOf};
-ghost use Rattle.path_search.specs.Growth.{GrowsUnlessMaximum};
+ghost use Rattle.breadth_first_match.specs.Phases.{EndsPhase};
 ghost use Rattle.breadth_first_match.specs.Ready.{AreLaid};
 
 use bip_graph::{Matching, Opposite};
@@ -48,18 +47,8 @@ impl ShortestPhases {
         ensures ready { IfOk result
             (λ b. AreLaid (S.matrix side.now) (F.seen matching.new) self.new) }
         ensures covered { Covers (F.seen matching.old).pairs (F.seen matching.new).pairs }
-        ensures grown { IfOk result
-            (λ b. IsTrue b
-            ↔ (length (F.seen matching.old).pairs < length (F.seen matching.new).pairs)) }
-
-        // Where the matching hasn't grown it was maximum, and the marked rows are the horizontal
-        // rows.
-        ensures maximum { IfOk result
-            (λ b. GrowsUnlessMaximum (S.matrix side.now) (F.seen matching.old)
-            (F.seen matching.new)) }
-        ensures marks { IfOk result (λ b. OnFalse b
-            (MarkHorizontalRows (S.matrix side.now)
-            self.new.forest.marks)) }
+        ensures phase { IfOk result (EndsPhase (S.matrix side.now)
+            (F.seen matching.old) (F.seen matching.new) self.new.forest.marks) }
     {
         let before = F::size(matching);
         self.forest.shortest(side, matching, &mut self.layers)?;

@@ -7,21 +7,11 @@ use Rattle.bip_defs.specs.Lists.{Among, IsRising, Lists}
 use Rattle.bip_defs.specs.Matching.{cols_of}
 use Rattle.bip_defs.specs.Matrix.{cols, column, IsEntry, Matrix, Place}
 use Rattle.bip_defs.specs.Start.{ColOfOne, IsFree, IsOnly}
-use Rattle.karp_sipser.specs.NeighbourSums.{AreSums, HoldsOnes, HoldsOnesBut, IsLeftOut, IsRest, IsShort, IsSum, LooksLikeOne, wrapping_sub}
+use Rattle.karp_sipser.specs.NeighbourSums.{AreSums, HoldsOnes, HoldsOnesBut, IsRest, IsShort, IsSum, LeavesOut, LooksLikeOne, wrapping_sub}
 use Rattle.karp_sipser.specs.declared.neighbour_sums.NeighbourSums.{NeighbourSums}
 use Rattle.karp_sipser.proofs.Free.{Adds, cols_kept, free_after, free_before}
 use Rattle.karp_sipser.proofs.Prefixes.{IsChanged, changed_next, flips, front_next}
 use Rattle.karp_sipser.proofs.Sums.{looks_only, one_looks, sum_same, sum_without}
-
--- what leaving out a matched column and its mate changes
-pub record IsAfter (matched mate : ℕ) (ids : List ℕ) (s t : NeighbourSums) : Type 0 where
-  pub left_out : IsLeftOut matched mate ids s t
-  pub kept : (x : ℕ) → x ≢ matched → ¬ Among x ids → slice_index t.words.items x ≡ slice_index s.words.items x
-  pub grows : (x : ℕ) → Among x s.of_one.members → Among x t.of_one.members
-  pub bound : t.of_one.bound ≡ s.of_one.bound
-  pub long : length t.words.items ≡ length s.words.items
-  pub unit : t.unit ≡ s.unit
-  pub some_long : t.some_long ≡ s.some_long
 
 -- some that have E, rising, and among them all but one that have F
 pub record AreBeside (E F : ℕ → Type 0) (mate : ℕ) (ids : List ℕ) : Type 0 where
@@ -78,7 +68,7 @@ pub record IsTaking (a : Matrix) (p : Place) (old new : List Place) (ids : List 
 kept_free : (a : Matrix) (p : Place) (old new : List Place) (ids : List ℕ) (c : ℕ) → IsTaking a p old new ids → ¬ Among c ids → c ≢ p.1 → (r : ℕ) → IsFree a old r c → IsFree a new r c
 kept_free a p old new ids c k off ne r g = free_after a p old new r c k.adds g (λ e. off (k.beside.complete c (subst (λ z. IsFree a old z c) e g) ne)) ne
 
-sum_after : (a : Matrix) (p : Place) (old new : List Place) (ids : List ℕ) (s t : NeighbourSums) → IsTaking a p old new ids → IsAfter p.1 p.0 ids s t
+sum_after : (a : Matrix) (p : Place) (old new : List Place) (ids : List ℕ) (s t : NeighbourSums) → IsTaking a p old new ids → LeavesOut p.1 p.0 ids s t
     → (c : ℕ) → ¬ Among c (cols_of new) → IsSum s.unit (λ r. IsFree a old r c) (slice_index s.words.items c) → IsSum s.unit (λ r. IsFree a new r c) (slice_index t.words.items c)
 sum_after a p old new ids s t k after c apart sum =
     let (ne, had) = unmatched_before p old new c k.adds apart in
@@ -91,7 +81,7 @@ sum_after a p old new ids s t k after c apart sum =
           (sum_same s.unit (λ r. IsFree a old r c) (λ r. IsFree a new r c) (slice_index s.words.items c) (kept_free a p old new ids c k off ne) (λ r g. (free_before a p old new r c k.adds g).0) sum)
     ]
 
-pub sums_after : (a : Matrix) (p : Place) (old new : List Place) (ids : List ℕ) (s t : NeighbourSums) → AreSums a old s → IsTaking a p old new ids → IsAfter p.1 p.0 ids s t → AreSums a new t
+pub sums_after : (a : Matrix) (p : Place) (old new : List Place) (ids : List ℕ) (s t : NeighbourSums) → AreSums a old s → IsTaking a p old new ids → LeavesOut p.1 p.0 ids s t → AreSums a new t
 sums_after a p old new ids s t sums k after = record {
   of_unit = rw after.unit sums.of_unit;
   long = after.long ∙ sums.long;
@@ -154,10 +144,10 @@ beside_known a m s r c x y sure o alone ids sums free is_c is_r lists word short
     (one_known o alone Left is left)
 
 -- numbers that are the same
-pub after_at : (x y matched mate : ℕ) (ids : List ℕ) (s t : NeighbourSums) → x ≡ matched → y ≡ mate → IsAfter x y ids s t → IsAfter matched mate ids s t
-after_at x y matched mate ids s t is_x is_y after = subst (λ z. IsAfter matched z ids s t) is_y (subst (λ z. IsAfter z y ids s t) is_x after)
+pub after_at : (x y matched mate : ℕ) (ids : List ℕ) (s t : NeighbourSums) → x ≡ matched → y ≡ mate → LeavesOut x y ids s t → LeavesOut matched mate ids s t
+after_at x y matched mate ids s t is_x is_y after = subst (λ z. LeavesOut matched z ids s t) is_y (subst (λ z. LeavesOut z y ids s t) is_x after)
 
-pub ones_after : (a : Matrix) (p : Place) (old new : List Place) (ids : List ℕ) (s t : NeighbourSums) → AreSums a old s → IsTaking a p old new ids → IsAfter p.1 p.0 ids s t
+pub ones_after : (a : Matrix) (p : Place) (old new : List Place) (ids : List ℕ) (s t : NeighbourSums) → AreSums a old s → IsTaking a p old new ids → LeavesOut p.1 p.0 ids s t
     → HoldsOnesBut p.1 a old s.of_one.members → HoldsOnes a new t.of_one.members
 ones_after a p old new ids s t sums k after ones c o =
     let (ne, had) = unmatched_before p old new c k.adds o.1.0.2 in

@@ -3,7 +3,8 @@ use Rattle.std.specs.Prelude.{◌≡◌, ◌≢◌, ℕ, suc, ◌+◌, ◌-◌, 
 use Rattle.bip_defs.specs.Lists.{Among, Lists}
 use Rattle.bip_defs.specs.Matching.{cols_of}
 use Rattle.bip_defs.specs.Matrix.{cols, column, Matrix, Place}
-use Rattle.bip_defs.specs.Start.{ColOfOne, IsFree}
+use Rattle.bip_defs.specs.Start.{ColOfOne, IsFree, IsLeast, IsOnly}
+use Rattle.bip_graph.specs.Matching.{Pairing}
 use Rattle.karp_sipser.specs.declared.neighbour_sums.NeighbourSums.{NeighbourSums}
 
 -- what is left of a sum without a number, modulo 2^32
@@ -48,6 +49,12 @@ pub record AreSums (a : Matrix) (m : List Place) (s : NeighbourSums) : Type 0 wh
       → IsSum s.unit (λ r. IsFree a m r c) (slice_index s.words.items c)
   pub short : s.some_long ≡ false → (c : ℕ) → c < cols a → IsShort s.unit (length (column a c))
 
+-- these sums of a matching that has the matrix's sizes
+pub record AreSumsOf (a : Matrix) (m : Pairing) (s : NeighbourSums) : Type 0 where
+  pub rows : m.rows ≡ a.rows
+  pub cols : m.cols ≡ cols a
+  pub sums : AreSums a m.pairs s
+
 -- each column with exactly one unmatched neighbour is among these
 abbrev pub HoldsOnes : Matrix → List Place → List ℕ → Type 0
 HoldsOnes a m members = (c : ℕ) → ColOfOne a m c → Among c members
@@ -56,9 +63,33 @@ HoldsOnes a m members = (c : ℕ) → ColOfOne a m c → Among c members
 abbrev pub HoldsOnesBut : ℕ → Matrix → List Place → List ℕ → Type 0
 HoldsOnesBut x a m members = (c : ℕ) → c ≢ x → ColOfOne a m c → Among c members
 
+-- the least column with exactly one unmatched neighbour, and this row; all others are among these
+pub record IsLeastOfOne (a : Matrix) (m : List Place) (members : List ℕ) (p : Place) : Type 0 where
+  pub least : IsLeast (ColOfOne a m) p.0
+  pub only : IsOnly (λ r. IsFree a m r p.0) p.1
+  pub ones : HoldsOnesBut p.0 a m members
+
+-- of these columns, and no others, the sums are less by a neighbour and a unit
+pub record Lowers (unit neighbour : ℕ) (ids old new : List ℕ) : Type 0 where
+  pub lowered : (x : ℕ) → Among x ids
+      → slice_index new x ≡ wrapping_sub (slice_index old x) ((unit + neighbour) % 2 ^ 32)
+  pub kept : (x : ℕ) → ¬ Among x ids → slice_index new x ≡ slice_index old x
+  pub long : length new ≡ length old
+
 -- without the mate: of these columns, but for the matched one, the sums are less by it, and those that look like one's are among the members
 pub record IsLeftOut (matched mate : ℕ) (ids : List ℕ) (old new : NeighbourSums) : Type 0 where
   pub lowered : (x : ℕ) → x ≢ matched → Among x ids → slice_index new.words.items x
       ≡ wrapping_sub (slice_index old.words.items x) ((old.unit + mate) % 2 ^ 32)
   pub ones : (x : ℕ) → Among x ids → LooksLikeOne old.unit (slice_index new.words.items x)
       → Among x new.of_one.members
+
+-- what leaving out a matched column and its mate changes
+pub record LeavesOut (matched mate : ℕ) (ids : List ℕ) (old new : NeighbourSums) : Type 0 where
+  pub left_out : IsLeftOut matched mate ids old new
+  pub kept : (x : ℕ) → x ≢ matched → ¬ Among x ids
+      → slice_index new.words.items x ≡ slice_index old.words.items x
+  pub grows : (x : ℕ) → Among x old.of_one.members → Among x new.of_one.members
+  pub bound : new.of_one.bound ≡ old.of_one.bound
+  pub long : length new.words.items ≡ length old.words.items
+  pub unit : new.unit ≡ old.unit
+  pub some_long : new.some_long ≡ old.some_long

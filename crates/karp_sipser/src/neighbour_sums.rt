@@ -1,10 +1,10 @@
 //! The sums of the unmatched neighbours of the rows, or of the columns, which say who has one alone.
 
-ghost use Rattle.std.specs.Prelude.{◌≡◌, ◌≢◌, ◌⊎◌, ◌+◌, ◌<◌, ◌%◌, ◌^◌, ◌↔◌, ℕ, [], true, false, length, map, slice_index, IfOk, IfSome, IfNone, IsTrue};
+ghost use Rattle.std.specs.Prelude.{◌≡◌, ◌⊎◌, ◌<◌, ◌%◌, ◌^◌, ◌↔◌, ℕ, [], false, length, map, slice_index, IfOk, IfSome, IfNone, IsTrue};
 ghost use Rattle.bip_defs.specs.Lists.{Among, IsRising};
-ghost use Rattle.bip_defs.specs.Matrix.{Matrix, cols, column};
-ghost use Rattle.bip_defs.specs.Start.{ColOfOne, IsFree, IsLeast, IsOnly};
-ghost use Rattle.karp_sipser.specs.NeighbourSums.{AreSums, HoldsOnes, HoldsOnesBut, IsLeftOut, IsRest, IsShort, IsUnit, LooksLikeOne, total, wrapping_sub};
+ghost use Rattle.bip_defs.specs.Matrix.{cols, column};
+ghost use Rattle.bip_defs.specs.Start.{ColOfOne, IsFree, IsOnly};
+ghost use Rattle.karp_sipser.specs.NeighbourSums.{AreSums, AreSumsOf, HoldsOnes, IsLeastOfOne, IsRest, IsShort, IsUnit, LeavesOut, LooksLikeOne, Lowers, total, wrapping_sub};
 
 use crate::unmatched::only_unmatched;
 use bip_graph::{Matching, Opposite};
@@ -72,18 +72,12 @@ impl NeighbourSums {
         side: &S,
         matching: &Matching,
     ) -> Option<(u32, u32)>
-        requires rows { (I.seen matching.now).rows ≡ Matrix.rows (S.matrix side.now) }
-        requires cols { (I.seen matching.now).cols ≡ cols (S.matrix side.now) }
-        requires sums { AreSums (S.matrix side.now) (I.seen matching.now).pairs self.old }
+        requires sums { AreSumsOf (S.matrix side.now) (I.seen matching.now) self.old }
         requires ones { HoldsOnes (S.matrix side.now) (I.seen matching.now).pairs
             self.old.of_one.members }
         ensures none { IfNone result
             ((c : ℕ) → ¬ ColOfOne (S.matrix side.now) (I.seen matching.now).pairs c) }
-        ensures least { IfSome result
-            (λ p. IsLeast (ColOfOne (S.matrix side.now) (I.seen matching.now).pairs) p.0) }
-        ensures only { IfSome result (λ p. IsOnly
-            (λ r. IsFree (S.matrix side.now) (I.seen matching.now).pairs r p.0) p.1) }
-        ensures ones { IfSome result (λ p. HoldsOnesBut p.0 (S.matrix side.now)
+        ensures taken { IfSome result (IsLeastOfOne (S.matrix side.now)
             (I.seen matching.now).pairs self.new.of_one.members) }
         ensures sums { AreSums (S.matrix side.now) (I.seen matching.now).pairs self.new }
     {
@@ -104,9 +98,7 @@ impl NeighbourSums {
         vertex: u32,
     ) -> Option<u32>
         requires vertex { vertex < cols (S.matrix side.now) }
-        requires rows { (I.seen matching.now).rows ≡ Matrix.rows (S.matrix side.now) }
-        requires cols { (I.seen matching.now).cols ≡ cols (S.matrix side.now) }
-        requires sums { AreSums (S.matrix side.now) (I.seen matching.now).pairs self.now }
+        requires sums { AreSumsOf (S.matrix side.now) (I.seen matching.now) self.now }
         ensures only { IfSome result (IsOnly
             (λ r. IsFree (S.matrix side.now) (I.seen matching.now).pairs r vertex)) }
         ensures none { IfNone result
@@ -174,15 +166,7 @@ impl NeighbourSums {
             → x < length self.old.words.items }
         requires matched { matched < length self.old.words.items }
         requires bound { self.old.of_one.bound ≡ length self.old.words.items }
-        ensures left_out { IsLeftOut matched mate (map I.number ids.now) self.old self.new }
-        ensures kept { (x : ℕ) → x ≢ matched → ¬ Among x (map I.number ids.now)
-            → slice_index self.new.words.items x ≡ slice_index self.old.words.items x }
-        ensures grows { (x : ℕ) → Among x self.old.of_one.members
-            → Among x self.new.of_one.members }
-        ensures bound { self.new.of_one.bound ≡ self.old.of_one.bound }
-        ensures long { length self.new.words.items ≡ length self.old.words.items }
-        ensures unit { self.new.unit ≡ self.old.unit }
-        ensures some_long { self.new.some_long ≡ self.old.some_long }
+        ensures { LeavesOut matched mate (map I.number ids.now) self.old self.new }
     {
         // Far from what looks like one neighbour.
         self.words[matched as usize] = self.unit.wrapping_add(1 << 31);
@@ -227,15 +211,11 @@ fn lower<I: Id>(words: &mut [u32], unit: u32, ids: &[I], neighbour: u32, of_one:
     requires rising { IsRising (map I.number ids.now) }
     requires in_range { (x : ℕ) → Among x (map I.number ids.now) → x < length words.old }
     requires bound { of_one.old.bound ≡ length words.old }
-    ensures lowered { (x : ℕ) → Among x (map I.number ids.now) → slice_index words.new x
-        ≡ wrapping_sub (slice_index words.old x) ((unit + neighbour) % 2 ^ 32) }
-    ensures kept { (x : ℕ) → ¬ Among x (map I.number ids.now)
-        → slice_index words.new x ≡ slice_index words.old x }
+    ensures lowers { Lowers unit neighbour (map I.number ids.now) words.old words.new }
     ensures ones { (x : ℕ) → Among x (map I.number ids.now)
         → LooksLikeOne unit (slice_index words.new x) → Among x of_one.new.members }
     ensures grows { (x : ℕ) → Among x of_one.old.members → Among x of_one.new.members }
     ensures bound { of_one.new.bound ≡ length words.old }
-    ensures long { length words.new ≡ length words.old }
 {
     let by = unit.wrapping_add(neighbour);
     for id in ids {

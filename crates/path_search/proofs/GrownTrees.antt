@@ -5,8 +5,10 @@ use Rattle.std.proofs.lemmas.List.{append-nil, length-map}
 use Rattle.bip_defs.specs.Lists.{Among, IsMarked}
 use Rattle.bip_defs.specs.Matching.{IsMatching, cols_of}
 use Rattle.bip_defs.specs.Matrix.{IsEntry, Matrix, Place, cols}
+use Rattle.bip_defs.proofs.Covers.{covers_more, covers_none}
 use Rattle.bip_defs.proofs.Sets.{among_last, among_right, distinct_last, entry_col, number_same, one_row}
-use Rattle.path_search.specs.Forests.{Extends, IsFound, IsForest, IsLeafOf, LeadOn, Spreads, Trees, Visits, reached_at, reached_cols}
+use Rattle.bip_graph.specs.Matching.{Pairing}
+use Rattle.path_search.specs.Forests.{AreGrowing, Extends, GrowOn, IsFound, IsForest, IsLeafOf, LeadOn, Spreads, Trees, Visits, reached_at, reached_cols}
 use Rattle.path_search.specs.declared.reached.Reached.{Reached}
 use Rattle.bip_defs.proofs.Full.{few_below}
 use Rattle.path_search.proofs.MarkLemmas.{marked_grows, marked_now, unmoved}
@@ -73,6 +75,12 @@ extends_more old mid new e f = record {
 -- whatever stands in the path's place
 pub extends_path : (old t : Trees) (path : List Place) → Extends old t → Extends old (record t { path = path })
 extends_path old t path e = record { more = e.more; marked = e.marked }
+
+pub grow_none : (a : Matrix) (m : Pairing) (t : Trees) → AreGrowing a m t → GrowOn a m m t t
+grow_none a m t g = record { growing = g; extends = extends_none t; covered = covers_none m.pairs }
+
+pub grow_more : (a : Matrix) (m n o : Pairing) (old mid new : Trees) → GrowOn a m n old mid → GrowOn a n o mid new → GrowOn a m o old new
+grow_more a m n o old mid new e f = record { growing = f.growing; extends = extends_more old mid new e.extends f.extends; covered = covers_more e.covered f.covered }
 
 pub extended_at : (old t : Trees) (i : ℕ) → Extends old t → i < length old.queue → reached_at t.queue i ≡ reached_at old.queue i
 extended_at old t i s lt = let (more, e) = s.more in ap (λ (q : List Reached). reached_at q i) e ∙ at_before old.queue more i lt

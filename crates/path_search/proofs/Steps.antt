@@ -4,7 +4,7 @@ use Rattle.std.proofs.Math.ListN.{length-set}
 use Rattle.bip_defs.specs.Lists.{Among, AreDistinct, IsMarked, Lists}
 use Rattle.bip_defs.specs.Matching.{IsMatching, rows_of}
 use Rattle.bip_defs.specs.Matrix.{IsEntry, Matrix, Place, column}
-use Rattle.bip_defs.proofs.Sets.{among_last, among_left, among_right, distinct_last, entry_col, rising_distinct, row_among, marked_below}
+use Rattle.bip_defs.proofs.Sets.{among_last, among_left, among_right, distinct_last, entry_col, rising_distinct, marked_below}
 use Rattle.path_search.specs.Advances.{Continues, Onward, HasFound}
 use Rattle.bip_defs.specs.Marks.{IsExplored}
 use Rattle.path_search.specs.Search.{Exhausts, SearchState}

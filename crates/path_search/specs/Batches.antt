@@ -6,7 +6,7 @@ use Rattle.bip_defs.specs.Matching.{cols_of}
 use Rattle.bip_defs.specs.Matrix.{IsEntry, Matrix, Place}
 use Rattle.bip_graph.specs.Matching.{Pairing}
 use Rattle.path_search.specs.Forests.{HaveNoPath, Trees, reached_at}
-use Rattle.path_search.specs.declared.batches.Candidate.{Candidate}
+use Rattle.path_search.specs.declared.batches.RowCandidate.{RowCandidate}
 use Rattle.path_search.specs.declared.reached.Reached.{Reached}
 
 -- the rows of some lists, by their numbers
@@ -26,31 +26,42 @@ list_at lists i = slice_index_or lists i []
 abbrev pub HaveRows : Matrix → List Place → List Reached → ℕ → ℕ → List (List ℕ) → Type 0
 HaveRows a m q place count lists = (i : ℕ) → i < count → HasRows a m (reached_at q (place + i)) (list_at lists i)
 
-abbrev pub candidate : ℕ → ℕ → Candidate
+-- so many columns of the queue, from a place on, with their rows
+pub record IsBatch (a : Matrix) (m : List Place) (q : List Reached) (place count : ℕ)
+    (lists : List (List ℕ)) : Type 0 where
+  pub within : place + count ≤ length q
+  pub lists_are : HaveRows a m q place count lists
+
+abbrev pub candidate : ℕ → ℕ → RowCandidate
 candidate place r = record { row = r; place = place }
 
+-- the column at the candidate's place of the queue has an entry in its row
+pub record LeadsToRow (a : Matrix) (q : List Reached) (x : RowCandidate) : Type 0 where
+  pub within : x.place < length q
+  pub entry : IsEntry a x.row (reached_at q x.place).col
+
 -- a column's rows, each with the column's place
-abbrev pub candidates_of : ℕ → List ℕ → List Candidate
+abbrev pub candidates_of : ℕ → List ℕ → List RowCandidate
 candidates_of place rows = map (λ (r : ℕ). candidate place r) rows
 
 -- the candidates are the rows of the lists from one to another, each with its column's place
-pub record Gathers (lists : List (List ℕ)) (place from to : ℕ) (new : List Candidate) : Type 0 where
-  pub sound : (x : Candidate) → Among x new → (i : ℕ) × (from ≤ i) × (i < to) × (x.place ≡ place + i)
+pub record Gathers (lists : List (List ℕ)) (place from to : ℕ) (new : List RowCandidate) : Type 0 where
+  pub sound : (x : RowCandidate) → Among x new → (i : ℕ) × (from ≤ i) × (i < to) × (x.place ≡ place + i)
       × Among x.row (list_at lists i)
   pub complete : (i : ℕ) → from ≤ i → i < to → (r : ℕ) → Among r (list_at lists i)
       → Among (candidate (place + i) r) new
 
 -- some of the candidates, with each whose row is unmarked
-pub record KeepsUnmarked (marks : List Bool) (old new : List Candidate) : Type 0 where
-  pub sound : (x : Candidate) → Among x new → Among x old
-  pub complete : (x : Candidate) → Among x old → IsMarked marks x.row ⊎ Among x new
+pub record KeepsUnmarked (marks : List Bool) (old new : List RowCandidate) : Type 0 where
+  pub sound : (x : RowCandidate) → Among x new → Among x old
+  pub complete : (x : RowCandidate) → Among x old → IsMarked marks x.row ⊎ Among x new
 
 -- where no tree had found a path none has after these visits, and the rows of the candidates are marked
-abbrev pub FindNoPath : Matrix → List Place → Trees → Trees → List Candidate → Type 0
+abbrev pub FindNoPath : Matrix → List Place → Trees → Trees → List RowCandidate → Type 0
 FindNoPath a m old new candidates = (place : ℕ) → place ≤ length old.queue → HaveNoPath a m old place
-    → HaveNoPath a m new place × ((x : Candidate) → Among x candidates → IsMarked new.marks x.row)
+    → HaveNoPath a m new place × ((x : RowCandidate) → Among x candidates → IsMarked new.marks x.row)
 
 -- the candidates are visited: the matching stays, as no tree finds a path, or it grows
-abbrev pub Follows : Matrix → Pairing → Pairing → Trees → Trees → List Candidate → Type 0
+abbrev pub Follows : Matrix → Pairing → Pairing → Trees → Trees → List RowCandidate → Type 0
 Follows a m n old new candidates = ((n ≡ m) × FindNoPath a m.pairs old new candidates)
     ⊎ (length m.pairs < length n.pairs)

@@ -2,10 +2,10 @@
 use Rattle.std.specs.Prelude.{◌≡◌, ◌⊎◌, ℕ, ◌<◌, Bool, List, true, false, [], ◌∷◌, ◌++◌, length, map, set, slice_index_or}
 use Rattle.bip_defs.specs.Lists.{Among, AreDistinct, IsMarked}
 use Rattle.bip_defs.specs.Marks.{IsExplored}
-use Rattle.bip_defs.specs.Matching.{cols_of, rows_of}
+use Rattle.bip_defs.specs.Matching.{Covers, cols_of, rows_of}
 use Rattle.bip_defs.specs.Matrix.{AreEntries, IsEntry, Matrix, Place, cols}
 use Rattle.bip_defs.specs.Paths.{IsAugmenting}
-use Rattle.bip_graph.specs.Matching.{Pairing}
+use Rattle.bip_graph.specs.Matching.{IsMatchingOf, Pairing}
 use Rattle.path_search.specs.declared.reached.Reached.{Reached}
 
 -- the number of columns, the mark of each row, the columns that were reached so far, and the path
@@ -65,6 +65,17 @@ pub record IsForest (a : Matrix) (m : List Place) (t : Trees) : Type 0 where
   pub found : (i : ℕ) → i < length t.queue → ¬ Among (reached_at t.queue i).root (cols_of m)
       → IsFound a m t.queue i
 
+-- what a phase begins with, and leaves for the next: a matching of the matrix, and trees of its sizes
+pub record CanGrow (a : Matrix) (m : Pairing) (t : Trees) : Type 0 where
+  pub rows : length t.marks ≡ a.rows
+  pub cols : t.cols ≡ cols a
+  pub matching : IsMatchingOf a m
+
+-- within a phase: a matching of the matrix, and the trees that have grown so far
+pub record AreGrowing (a : Matrix) (m : Pairing) (t : Trees) : Type 0 where
+  pub matching : IsMatchingOf a m
+  pub forest : IsForest a m.pairs t
+
 -- the row's mate was reached
 abbrev pub LeadsOn : List Place → List Reached → ℕ → Type 0
 LeadsOn m q r = (d : ℕ) × Among (r, d) m × Among d (reached_cols q)
@@ -90,6 +101,12 @@ pub record Extends (old new : Trees) : Type 0 where
   pub more : (more : List Reached) × (new.queue ≡ old.queue ++ more)
   pub marked : (r : ℕ) → IsMarked old.marks r → IsMarked new.marks r
 
+-- the phase goes on: the trees have grown, and what was matched stays matched
+pub record GrowOn (a : Matrix) (m n : Pairing) (old new : Trees) : Type 0 where
+  pub growing : AreGrowing a n new
+  pub extends : Extends old new
+  pub covered : Covers m.pairs n.pairs
+
 -- each row that was marked since leads on
 abbrev pub LeadOn : List Place → Trees → Trees → Type 0
 LeadOn m old new = (r : ℕ) → IsMarked new.marks r → IsMarked old.marks r ⊎ LeadsOn m new.queue r
@@ -99,6 +116,13 @@ pub record IsLeafOf (a : Matrix) (m : List Place) (t : Trees) (c r : ℕ) : Type
   pub entry : IsEntry a r c
   pub unmatched : ¬ Among r (rows_of m)
   pub marked : IsMarked t.marks r
+
+-- a path ends at the row: it is unmatched and marked, and the column at the place of the queue has an
+-- entry in it and stands in a tree whose root is unmatched
+pub record EndsAt (a : Matrix) (m : List Place) (t : Trees) (r place : ℕ) : Type 0 where
+  pub within : place < length t.queue
+  pub leaf : IsLeafOf a m t (reached_at t.queue place).col r
+  pub unmatched : ¬ Among (reached_at t.queue place).root (cols_of m)
 
 -- a marked row stays as it is; another is marked, and its mate is reached, or it has none
 abbrev pub Visits : List Place → ℕ → ℕ → ℕ → Trees → Trees → Bool → Type 0

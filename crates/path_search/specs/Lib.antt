@@ -1,9 +1,9 @@
 pub mod Advances
 pub mod Batches
+pub mod Flips
 pub mod Forests
 pub mod Growth
 pub mod Layers
 pub mod Roots
 pub mod Search
-pub mod Shortest
 pub mod Trails

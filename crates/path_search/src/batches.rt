@@ -29,7 +29,7 @@ pub struct Batch<'l, 's, F: Id> {
 
 /// A row that may be visited next, from the column at a place of the queue.
 #[derive(Clone, Copy)]
-pub struct Candidate {
+pub struct RowCandidate {
     pub row: Row,
     pub place: u32,
 }
@@ -94,14 +94,14 @@ pub fn look_up<'s, F: Opposite, S: Side<F>>(
 }
 
 // Puts a column's rows behind the first `len` candidates.
-fn append<F: Id>(rows: &[F], place: u32, candidates: &mut [Candidate], len: usize)
+fn append<F: Id>(rows: &[F], place: u32, candidates: &mut [RowCandidate], len: usize)
     requires { len + length rows.now ≤ length candidates.old }
     ensures { take (len + length rows.now) candidates.new
         ≡ take len candidates.old ++ candidates_of place (map F.number rows.now) }
 {
     for at in 0..rows.len() {
         let row = row_at(rows, at, false);
-        candidates[len + at] = Candidate { row, place };
+        candidates[len + at] = RowCandidate { row, place };
     }
 }
 
@@ -110,7 +110,7 @@ fn append<F: Id>(rows: &[F], place: u32, candidates: &mut [Candidate], len: usiz
 pub fn gather<F: Id>(
     batch: &Batch<'_, '_, F>,
     from: usize,
-    candidates: &mut [Candidate],
+    candidates: &mut [RowCandidate],
 ) -> (usize, usize)
     requires from { from ≤ length batch.now.lists.now }
     requires places { batch.now.place + length batch.now.lists.now < 2 ^ 32 }
@@ -144,9 +144,9 @@ fn unmarked(marks: &[bool], row: Row) -> usize
 
 /// Keeps those of the first `len` candidates whose rows are unmarked, in their order, told without
 /// a branch. How many there are: they stand first.
-pub fn keep_unmarked(candidates: &mut [Candidate], len: usize, marks: &[bool]) -> usize
+pub fn keep_unmarked(candidates: &mut [RowCandidate], len: usize, marks: &[bool]) -> usize
     requires len { len ≤ length candidates.old }
-    requires in_range { (x : Candidate) → Among x (take len candidates.old)
+    requires in_range { (x : RowCandidate) → Among x (take len candidates.old)
         → x.row < length marks.now }
     ensures room { result ≤ length candidates.new }
     ensures kept { KeepsUnmarked marks.now (take len candidates.old) (take result candidates.new) }

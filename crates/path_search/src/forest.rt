@@ -3,16 +3,15 @@
 ghost use Rattle.std.specs.Prelude.{◌≡◌, ◌↔◌, ℕ, suc, ◌+◌, ◌<◌, ◌≤◌, ◌∷◌, ◌++◌, [], true, length, set, IsTrue, IfOk, IfSome, IfNone};
 ghost use Rattle.bip_defs.specs.Lists.{Among, IsMarked};
 ghost use Rattle.bip_defs.specs.Marks.{IsExplored};
-ghost use Rattle.bip_defs.specs.Matching.{Covers, cols_of};
-ghost use Rattle.bip_defs.specs.Matrix.{AreEntries, IsEntry, Matrix, cols};
+ghost use Rattle.bip_defs.specs.Matching.{Covers};
+ghost use Rattle.bip_defs.specs.Matrix.{cols};
 ghost use Rattle.bip_defs.specs.Parts.{MarkHorizontalRows};
-ghost use Rattle.bip_defs.specs.Paths.{Exchanges, IsAugmenting};
-ghost use Rattle.bip_graph.specs.Matching.{IsMatchingOf};
 ghost use Rattle.path_search.specs.Growth.{GrowsUnlessMaximum};
-ghost use Rattle.path_search.specs.Batches.{Follows, HaveRows, numbers_in};
-ghost use Rattle.path_search.specs.Forests.{Extends, HaveNoPath, IsForest, IsLeafOf, LeadOn, Progresses, Spreads, Traces, Visits, reached_at};
+ghost use Rattle.path_search.specs.Batches.{Follows, IsBatch, LeadsToRow, numbers_in};
+ghost use Rattle.path_search.specs.Flips.{CanFlip, Flips};
+ghost use Rattle.path_search.specs.Forests.{AreGrowing, CanGrow, EndsAt, GrowOn, HaveNoPath, IsForest, IsLeafOf, LeadOn, Progresses, Spreads, Traces, Visits, reached_at};
 
-use crate::batches::{Batch, Candidate, ROOM, gather, keep_unmarked, look_up, no_lists};
+use crate::batches::{Batch, ROOM, RowCandidate, gather, keep_unmarked, look_up, no_lists};
 use crate::columns::{sizes_fit, unmark_all};
 use crate::reached::{Reached, RootedQueue};
 use bip_graph::{Matching, Opposite, trace_back};
@@ -136,17 +135,9 @@ impl SearchForest {
 
     // Exchanges the path, and leaves something else in its place.
     fn flip<F: Opposite>(&mut self, matching: &mut Matching)
-        requires in_range { (r c : ℕ) → Among (r, c) self.old.path
-            → (r < (F.seen matching.old).rows) × (c < (F.seen matching.old).cols) }
-        requires path { IsAugmenting (F.seen matching.old).pairs self.old.path }
+        requires { CanFlip (F.seen matching.old) self.old.path }
         ensures same { self.new ≡ record self.old { path = self.new.path } }
-        ensures pairs { Exchanges self.old.path (F.seen matching.old).pairs
-            (F.seen matching.new).pairs }
-        ensures size { length (F.seen matching.new).pairs
-            ≡ suc (length (F.seen matching.old).pairs) }
-        ensures matching { (a : Matrix) → IsMatchingOf a (F.seen matching.old)
-            → AreEntries a self.old.path → IsMatchingOf a (F.seen matching.new) }
-        ensures covered { Covers (F.seen matching.old).pairs (F.seen matching.new).pairs }
+        ensures flips { Flips self.old.path (F.seen matching.old) (F.seen matching.new) }
     {
         F::exchange(matching, self.path.as_mut_slice());
     }
@@ -215,8 +206,7 @@ impl SearchForest {
         col: Col,
         root: Col,
     ) -> Option<Row>
-        requires matching { IsMatchingOf (S.matrix side.now) (F.seen matching.now) }
-        requires forest { IsForest (S.matrix side.now) (F.seen matching.now).pairs self.old }
+        requires growing { AreGrowing (S.matrix side.now) (F.seen matching.now) self.old }
         requires place { place < length self.old.queue }
         requires col { (reached_at self.old.queue place).col ≡ col }
         requires root { (reached_at self.old.queue place).root ≡ root }
@@ -246,13 +236,8 @@ impl SearchForest {
         row: Row,
         place: u32,
     )
-        requires matching { IsMatchingOf (S.matrix side.now) (F.seen matching.now) }
-        requires forest { IsForest (S.matrix side.now) (F.seen matching.now).pairs self.old }
-        requires place { place < length self.old.queue }
-        requires leaf { IsLeafOf (S.matrix side.now) (F.seen matching.now).pairs self.old
-            (reached_at self.old.queue place).col row }
-        requires unmatched { ¬ Among (reached_at self.old.queue place).root
-            (cols_of (F.seen matching.now).pairs) }
+        requires growing { AreGrowing (S.matrix side.now) (F.seen matching.now) self.old }
+        requires ends { EndsAt (S.matrix side.now) (F.seen matching.now).pairs self.old row place }
         ensures same { self.new ≡ record self.old { path = self.new.path } }
         ensures path { Traces (S.matrix side.now) (F.seen matching.now).pairs self.old.queue
             (reached_at self.old.queue place).root row self.new.path }
@@ -275,16 +260,10 @@ impl SearchForest {
         row: Row,
         place: u32,
     )
-        requires matching { IsMatchingOf (S.matrix side.now) (F.seen matching.old) }
-        requires forest { IsForest (S.matrix side.now) (F.seen matching.old).pairs self.old }
-        requires place { place < length self.old.queue }
-        requires leaf { IsLeafOf (S.matrix side.now) (F.seen matching.old).pairs self.old
-            (reached_at self.old.queue place).col row }
-        requires unmatched { ¬ Among (reached_at self.old.queue place).root
-            (cols_of (F.seen matching.old).pairs) }
+        requires growing { AreGrowing (S.matrix side.now) (F.seen matching.old) self.old }
+        requires ends { EndsAt (S.matrix side.now) (F.seen matching.old).pairs self.old row place }
         ensures same { self.new ≡ record self.old { path = self.new.path } }
-        ensures forest { IsForest (S.matrix side.now) (F.seen matching.new).pairs self.new }
-        ensures matching { IsMatchingOf (S.matrix side.now) (F.seen matching.new) }
+        ensures growing { AreGrowing (S.matrix side.now) (F.seen matching.new) self.new }
         ensures covered { Covers (F.seen matching.old).pairs (F.seen matching.new).pairs }
         ensures size { length (F.seen matching.new).pairs
             ≡ suc (length (F.seen matching.old).pairs) }
@@ -296,13 +275,10 @@ impl SearchForest {
     // Looks through the list of the column at a place, unless its tree is done with, and exchanges
     // a path that ends there.
     fn grow<F: Opposite, S: Side<F>>(&mut self, side: &S, matching: &mut Matching, place: u32)
-        requires matching { IsMatchingOf (S.matrix side.now) (F.seen matching.old) }
-        requires forest { IsForest (S.matrix side.now) (F.seen matching.old).pairs self.old }
+        requires growing { AreGrowing (S.matrix side.now) (F.seen matching.old) self.old }
         requires place { place < length self.old.queue }
-        ensures forest { IsForest (S.matrix side.now) (F.seen matching.new).pairs self.new }
-        ensures extends { Extends self.old self.new }
-        ensures matching { IsMatchingOf (S.matrix side.now) (F.seen matching.new) }
-        ensures covered { Covers (F.seen matching.old).pairs (F.seen matching.new).pairs }
+        ensures grown { GrowOn (S.matrix side.now) (F.seen matching.old) (F.seen matching.new)
+            self.old self.new }
         ensures progresses { Progresses (S.matrix side.now) (F.seen matching.old)
             (F.seen matching.new) self.old self.new place (place + 1) }
     {
@@ -323,17 +299,12 @@ impl SearchForest {
         &mut self,
         side: &S,
         matching: &mut Matching,
-        next: Candidate,
+        next: RowCandidate,
     )
-        requires matching { IsMatchingOf (S.matrix side.now) (F.seen matching.old) }
-        requires forest { IsForest (S.matrix side.now) (F.seen matching.old).pairs self.old }
-        requires place { next.place < length self.old.queue }
-        requires entry { IsEntry (S.matrix side.now) next.row
-            (reached_at self.old.queue next.place).col }
-        ensures forest { IsForest (S.matrix side.now) (F.seen matching.new).pairs self.new }
-        ensures extends { Extends self.old self.new }
-        ensures matching { IsMatchingOf (S.matrix side.now) (F.seen matching.new) }
-        ensures covered { Covers (F.seen matching.old).pairs (F.seen matching.new).pairs }
+        requires growing { AreGrowing (S.matrix side.now) (F.seen matching.old) self.old }
+        requires candidate { LeadsToRow (S.matrix side.now) self.old.queue next }
+        ensures grown { GrowOn (S.matrix side.now) (F.seen matching.old) (F.seen matching.new)
+            self.old self.new }
         ensures follows { Follows (S.matrix side.now) (F.seen matching.old) (F.seen matching.new)
             self.old self.new (next ∷ []) }
     {
@@ -354,17 +325,13 @@ impl SearchForest {
         &mut self,
         side: &S,
         matching: &mut Matching,
-        candidates: &[Candidate],
+        candidates: &[RowCandidate],
     )
-        requires matching { IsMatchingOf (S.matrix side.now) (F.seen matching.old) }
-        requires forest { IsForest (S.matrix side.now) (F.seen matching.old).pairs self.old }
-        requires candidates { (x : Candidate) → Among x candidates.now
-            → (x.place < length self.old.queue)
-            × IsEntry (S.matrix side.now) x.row (reached_at self.old.queue x.place).col }
-        ensures forest { IsForest (S.matrix side.now) (F.seen matching.new).pairs self.new }
-        ensures extends { Extends self.old self.new }
-        ensures matching { IsMatchingOf (S.matrix side.now) (F.seen matching.new) }
-        ensures covered { Covers (F.seen matching.old).pairs (F.seen matching.new).pairs }
+        requires growing { AreGrowing (S.matrix side.now) (F.seen matching.old) self.old }
+        requires candidates { (x : RowCandidate) → Among x candidates.now
+            → LeadsToRow (S.matrix side.now) self.old.queue x }
+        ensures grown { GrowOn (S.matrix side.now) (F.seen matching.old) (F.seen matching.new)
+            self.old self.new }
         ensures follows { Follows (S.matrix side.now) (F.seen matching.old) (F.seen matching.new)
             self.old self.new candidates.now }
     {
@@ -381,19 +348,15 @@ impl SearchForest {
         matching: &mut Matching,
         batch: &Batch<'_, '_, F>,
         at: usize,
-        candidates: &mut [Candidate],
+        candidates: &mut [RowCandidate],
     ) -> usize
-        requires matching { IsMatchingOf (S.matrix side.now) (F.seen matching.old) }
-        requires forest { IsForest (S.matrix side.now) (F.seen matching.old).pairs self.old }
+        requires growing { AreGrowing (S.matrix side.now) (F.seen matching.old) self.old }
         requires at { at < length batch.now.lists.now }
-        requires within { batch.now.place + length batch.now.lists.now ≤ length self.old.queue }
-        requires lists { HaveRows (S.matrix side.now) (F.seen matching.old).pairs self.old.queue
+        requires batch { IsBatch (S.matrix side.now) (F.seen matching.old).pairs self.old.queue
             batch.now.place (length batch.now.lists.now) (numbers_in F.number batch.now.lists.now) }
         ensures end { (at < result) × (result ≤ length batch.now.lists.now) }
-        ensures forest { IsForest (S.matrix side.now) (F.seen matching.new).pairs self.new }
-        ensures extends { Extends self.old self.new }
-        ensures matching { IsMatchingOf (S.matrix side.now) (F.seen matching.new) }
-        ensures covered { Covers (F.seen matching.old).pairs (F.seen matching.new).pairs }
+        ensures grown { GrowOn (S.matrix side.now) (F.seen matching.old) (F.seen matching.new)
+            self.old self.new }
         ensures progresses { Progresses (S.matrix side.now) (F.seen matching.old)
             (F.seen matching.new) self.old self.new
             (batch.now.place + at) (batch.now.place + result) }
@@ -417,16 +380,14 @@ impl SearchForest {
         matching: &mut Matching,
         place: u32,
         lists: &mut [&'s [F]],
-        candidates: &mut [Candidate],
+        candidates: &mut [RowCandidate],
     ) -> u32
-        requires matching { IsMatchingOf (S.matrix side.now) (F.seen matching.old) }
-        requires forest { IsForest (S.matrix side.now) (F.seen matching.old).pairs self.old }
+        requires growing { AreGrowing (S.matrix side.now) (F.seen matching.old) self.old }
         requires place { place < length self.old.queue }
         requires room { 0 < length lists.old }
         ensures end { (place < result) × (result ≤ length self.new.queue) }
-        ensures forest { IsForest (S.matrix side.now) (F.seen matching.new).pairs self.new }
-        ensures matching { IsMatchingOf (S.matrix side.now) (F.seen matching.new) }
-        ensures covered { Covers (F.seen matching.old).pairs (F.seen matching.new).pairs }
+        ensures grown { GrowOn (S.matrix side.now) (F.seen matching.old) (F.seen matching.new)
+            self.old self.new }
         ensures progresses { Progresses (S.matrix side.now) (F.seen matching.old)
             (F.seen matching.new) self.old self.new place result }
     {
@@ -456,12 +417,8 @@ impl SearchForest {
     /// lists are looked up, then their rows' marks, up to 512 at once, and then the unmarked rows
     /// are visited. So looks of one kind stand together, and none hangs on what another found.
     pub fn sweep<F: Opposite, S: Side<F>>(&mut self, side: &S, matching: &mut Matching)
-        requires rows { length self.old.marks ≡ (S.matrix side.now).rows }
-        requires cols { self.old.cols ≡ cols (S.matrix side.now) }
-        requires matching { IsMatchingOf (S.matrix side.now) (F.seen matching.old) }
-        ensures rows { length self.new.marks ≡ length self.old.marks }
-        ensures cols { self.new.cols ≡ self.old.cols }
-        ensures matching { IsMatchingOf (S.matrix side.now) (F.seen matching.new) }
+        requires ready { CanGrow (S.matrix side.now) (F.seen matching.old) self.old }
+        ensures ready { CanGrow (S.matrix side.now) (F.seen matching.new) self.new }
         ensures covered { Covers (F.seen matching.old).pairs (F.seen matching.new).pairs }
 
         // Where the matching hasn't grown it was maximum, and the marked rows are the horizontal
@@ -474,7 +431,7 @@ impl SearchForest {
         sizes_fit::<F, S>(side);
         self.start(side, matching);
         let mut lists = no_lists(side);
-        let mut candidates = [Candidate {
+        let mut candidates = [RowCandidate {
             row: Row(0),
             place: 0,
         }; ROOM];

@@ -1,18 +1,18 @@
 //! Searches, and what one keeps for the next.
 
 ghost use Rattle.std.specs.Bool.{OnTrue, OnFalse};
-ghost use Rattle.std.specs.Prelude.{◌≡◌, ◌⊎◌, ℕ, suc, ◌<◌, ◌≤◌, ◌∷◌, ◌++◌, [], Bool, List, true, length, map, set, slice_index, IfOk, IfSome, IfNone};
+ghost use Rattle.std.specs.Prelude.{◌≡◌, ℕ, ◌<◌, ◌≤◌, ◌∷◌, ◌++◌, [], Bool, List, true, length, map, set, slice_index, IfOk, IfSome, IfNone};
 ghost use Rattle.bip_defs.specs.Lists.{Among, IsMarked};
-ghost use Rattle.bip_defs.specs.Matching.{Covers, rows_of, cols_of};
-ghost use Rattle.bip_defs.specs.Matrix.{AreEntries, IsEntry, Matrix, cols};
-ghost use Rattle.bip_defs.specs.Paths.{Exchanges, IsAugmenting};
+ghost use Rattle.bip_defs.specs.Matching.{Covers, rows_of};
+ghost use Rattle.bip_defs.specs.Matrix.{IsEntry, cols};
 ghost use Rattle.bip_graph.specs.Matching.{IsMatchingOf};
-ghost use Rattle.path_search.specs.Search.{Augments, Exhausts, Fails, Finds, HasMarked};
+ghost use Rattle.path_search.specs.Flips.{CanFlip, Flips};
+ghost use Rattle.path_search.specs.Search.{Augments, CanSearchFrom, Exhausts, Fails, Finds, HasMarked, HasSearched, MovesOnly};
 ghost use Rattle.path_search.specs.Advances.{Advances, Descends};
 ghost use Rattle.path_search.specs.Trails.{HasPassed, IsSearchAt, read_place};
 
 use crate::columns::{next_unmarked, row_at, sizes_fit, unmark, unmark_all, unmatched_row};
-use crate::step::{Position, Step};
+use crate::step::{ColumnPlace, Step};
 use bip_graph::{Matching, Opposite};
 use sp_ids::{Col, Id, OutOfMemory, Row};
 use sp_pattern::Side;
@@ -111,7 +111,7 @@ impl Search {
     }
 
     // Leaves the path's last pair: the place from where its column is left to be read.
-    fn back(&mut self) -> Option<Position>
+    fn back(&mut self) -> Option<ColumnPlace>
         requires { length self.old.path ≡ length self.old.places }
         ensures some { IfSome result
             (λ s. (r : ℕ) × (self.old
@@ -123,7 +123,7 @@ impl Search {
     {
         let place = self.places.pop()?;
         let (_row, col) = self.path.pop()?;
-        Some(Position { col, place })
+        Some(ColumnPlace { col, place })
     }
 
     // An unmatched row of a column that is not marked, where one was not passed yet.
@@ -168,7 +168,7 @@ impl Search {
         &mut self,
         side: &S,
         matching: &Matching,
-        at: Position,
+        at: ColumnPlace,
         reversed: bool,
     ) -> Step
         requires matching { IsMatchingOf (S.matrix side.now) (F.seen matching.now) }
@@ -188,7 +188,7 @@ impl Search {
             None => Step::Found,
             Some(next) => {
                 self.note(place as u32 + 1);
-                Step::On(Position {
+                Step::On(ColumnPlace {
                     col: next,
                     place: 0,
                 })
@@ -201,7 +201,7 @@ impl Search {
         &mut self,
         side: &S,
         matching: &Matching,
-        at: Position,
+        at: ColumnPlace,
         reversed: bool,
     ) -> Step
         requires matching { IsMatchingOf (S.matrix side.now) (F.seen matching.now) }
@@ -224,7 +224,7 @@ impl Search {
         &mut self,
         side: &S,
         matching: &Matching,
-        at: Position,
+        at: ColumnPlace,
         reversed: bool,
     ) -> Step
         requires matching { IsMatchingOf (S.matrix side.now) (F.seen matching.now) }
@@ -250,25 +250,18 @@ impl Search {
         root: Col,
         reversed: bool,
     ) -> bool
-        requires rows { length self.old.marks ≡ (S.matrix side.now).rows }
-        requires cols { self.old.cols ≡ cols (S.matrix side.now) }
-        requires matching { IsMatchingOf (S.matrix side.now) (F.seen matching.now) }
-        requires root { root < cols (S.matrix side.now) }
-        requires unmatched { ¬ Among root (cols_of (F.seen matching.now).pairs) }
-        ensures cols { self.new.cols ≡ self.old.cols }
-        ensures marks { HasMarked self.new.visited self.old.marks self.new.marks }
-        ensures found { OnTrue result
-            (Finds (S.matrix side.now)
-            (F.seen matching.now).pairs self.old.marks root self.new.path) }
+        requires { CanSearchFrom root (S.matrix side.now) (F.seen matching.now) self.old }
+        ensures searched { HasSearched self.old self.new }
+        ensures found { OnTrue result (Finds (S.matrix side.now) (F.seen matching.now).pairs
+            self.old.marks root self.new.path) }
         ensures visited { OnTrue result
             ((r : ℕ) → Among r (rows_of self.new.path) → Among r self.new.visited) }
-        ensures failed { OnFalse result
-            (Exhausts (S.matrix side.now)
-            (F.seen matching.now).pairs self.new.marks self.new.visited root) }
+        ensures failed { OnFalse result (Exhausts (S.matrix side.now) (F.seen matching.now).pairs
+            self.new.marks self.new.visited root) }
     {
         sizes_fit::<F, S>(side);
         self.start(root);
-        let mut at = Position {
+        let mut at = ColumnPlace {
             col: root,
             place: 0,
         };
@@ -283,17 +276,9 @@ impl Search {
 
     // Exchanges the path, and leaves something else in its place.
     fn flip<F: Opposite>(&mut self, matching: &mut Matching)
-        requires in_range { (r c : ℕ) → Among (r, c) self.old.path
-            → (r < (F.seen matching.old).rows) × (c < (F.seen matching.old).cols) }
-        requires path { IsAugmenting (F.seen matching.old).pairs self.old.path }
+        requires { CanFlip (F.seen matching.old) self.old.path }
         ensures same { self.new ≡ record self.old { path = self.new.path } }
-        ensures pairs { Exchanges self.old.path (F.seen matching.old).pairs
-            (F.seen matching.new).pairs }
-        ensures size { length (F.seen matching.new).pairs
-            ≡ suc (length (F.seen matching.old).pairs) }
-        ensures matching { (a : Matrix) → IsMatchingOf a (F.seen matching.old)
-            → AreEntries a self.old.path → IsMatchingOf a (F.seen matching.new) }
-        ensures covered { Covers (F.seen matching.old).pairs (F.seen matching.new).pairs }
+        ensures flips { Flips self.old.path (F.seen matching.old) (F.seen matching.new) }
     {
         F::exchange(matching, self.path.as_mut_slice());
     }
@@ -313,28 +298,21 @@ impl Search {
         root: Col,
         reversed: bool,
     ) -> bool
-        requires rows { length self.old.marks ≡ (S.matrix side.now).rows }
-        requires cols { self.old.cols ≡ cols (S.matrix side.now) }
-        requires matching { IsMatchingOf (S.matrix side.now) (F.seen matching.old) }
-        requires root { root < cols (S.matrix side.now) }
-        requires unmatched { ¬ Among root (cols_of (F.seen matching.old).pairs) }
-        ensures cols { self.new.cols ≡ self.old.cols }
-        ensures marks { HasMarked self.new.visited self.old.marks self.new.marks }
+        requires { CanSearchFrom root (S.matrix side.now) (F.seen matching.old) self.old }
+        ensures searched { HasSearched self.old self.new }
         ensures matching { IsMatchingOf (S.matrix side.now) (F.seen matching.new) }
         ensures covered { Covers (F.seen matching.old).pairs (F.seen matching.new).pairs }
         ensures found { OnTrue result
             (Augments root self.old.marks (F.seen matching.old).pairs (F.seen matching.new).pairs) }
 
         // Each row that gets a mate, or another one, is among those that this search has marked.
-        ensures moved { (r d : ℕ) → Among (r, d) (F.seen matching.new).pairs
-            → Among (r, d) (F.seen matching.old).pairs ⊎ Among r self.new.visited }
+        ensures moved { MovesOnly self.new.visited (F.seen matching.old) (F.seen matching.new) }
 
         // Without a path the matching stays, and the rows that were marked are of no use to any
         // other path.
-        ensures failed { OnFalse result
-            ((F.seen matching.new ≡ F.seen matching.old)
-            × Fails (S.matrix side.now)
-            (F.seen matching.old).pairs self.old.marks self.new.marks root) }
+        ensures stays { OnFalse result (F.seen matching.new ≡ F.seen matching.old) }
+        ensures failed { OnFalse result (Fails (S.matrix side.now) (F.seen matching.old).pairs
+            self.old.marks self.new.marks root) }
     {
         if !self.find(side, matching, root, reversed) {
             return false;

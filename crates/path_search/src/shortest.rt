@@ -4,10 +4,8 @@ ghost use Rattle.std.specs.Prelude.{◌≡◌, ◌⊎◌, ◌<◌, length, IfSom
 ghost use Rattle.bip_defs.specs.Lists.{Among};
 ghost use Rattle.bip_defs.specs.Matching.{Covers, cols_of};
 ghost use Rattle.bip_defs.specs.Matrix.{cols};
-ghost use Rattle.bip_graph.specs.Matching.{IsMatchingOf};
-ghost use Rattle.path_search.specs.Forests.{Extends, IsForest, reached_at};
+ghost use Rattle.path_search.specs.Forests.{AreGrowing, CanGrow, EndsAt, Extends, GrowOn, IsForest, reached_at};
 ghost use Rattle.path_search.specs.Layers.{AreLayers};
-ghost use Rattle.path_search.specs.Shortest.{EndsAt};
 
 use crate::columns::sizes_fit;
 use crate::forest::SearchForest;
@@ -32,14 +30,10 @@ impl SearchForest {
         matching: &mut Matching,
         layers: &mut Layers,
     ) -> Result<(), OutOfMemory>
-        requires rows { length self.old.marks ≡ (S.matrix side.now).rows }
-        requires cols { self.old.cols ≡ cols (S.matrix side.now) }
-        requires matching { IsMatchingOf (S.matrix side.now) (F.seen matching.old) }
+        requires ready { CanGrow (S.matrix side.now) (F.seen matching.old) self.old }
         requires layers { AreLayers (cols (S.matrix side.now)) layers.old }
-        ensures rows { length self.new.marks ≡ length self.old.marks }
-        ensures cols { self.new.cols ≡ self.old.cols }
+        ensures ready { CanGrow (S.matrix side.now) (F.seen matching.new) self.new }
         ensures layers { AreLayers (cols (S.matrix side.now)) layers.new }
-        ensures matching { IsMatchingOf (S.matrix side.now) (F.seen matching.new) }
         ensures covered { Covers (F.seen matching.old).pairs (F.seen matching.new).pairs }
         ensures grown { (F.seen matching.new ≡ F.seen matching.old)
             ⊎ (length (F.seen matching.old).pairs < length (F.seen matching.new).pairs) }
@@ -63,15 +57,12 @@ impl SearchForest {
         layers: &mut Layers,
         root: u32,
     )
-        requires matching { IsMatchingOf (S.matrix side.now) (F.seen matching.old) }
-        requires forest { IsForest (S.matrix side.now) (F.seen matching.old).pairs self.old }
+        requires growing { AreGrowing (S.matrix side.now) (F.seen matching.old) self.old }
         requires layers { AreLayers (cols (S.matrix side.now)) layers.old }
         requires root { root < length self.old.queue }
-        ensures forest { IsForest (S.matrix side.now) (F.seen matching.new).pairs self.new }
-        ensures extends { Extends self.old self.new }
+        ensures trees { GrowOn (S.matrix side.now) (F.seen matching.old) (F.seen matching.new)
+            self.old self.new }
         ensures layers { AreLayers (cols (S.matrix side.now)) layers.new }
-        ensures matching { IsMatchingOf (S.matrix side.now) (F.seen matching.new) }
-        ensures covered { Covers (F.seen matching.old).pairs (F.seen matching.new).pairs }
         ensures grown { (F.seen matching.new ≡ F.seen matching.old)
             ⊎ (length (F.seen matching.old).pairs < length (F.seen matching.new).pairs) }
     {
@@ -94,8 +85,7 @@ impl SearchForest {
         layers: &mut Layers,
         root: u32,
     ) -> Option<(Row, u32)>
-        requires matching { IsMatchingOf (S.matrix side.now) (F.seen matching.now) }
-        requires forest { IsForest (S.matrix side.now) (F.seen matching.now).pairs self.old }
+        requires growing { AreGrowing (S.matrix side.now) (F.seen matching.now) self.old }
         requires layers { AreLayers (cols (S.matrix side.now)) layers.old }
         requires root { root < length self.old.queue }
         requires unmatched { ¬ Among (reached_at self.old.queue root).root

@@ -4,7 +4,7 @@ use sp_ids::Col;
 
 /// Where a search stands: at a place of a column's list.
 #[derive(Clone, Copy)]
-pub struct Position {
+pub struct ColumnPlace {
     pub col: Col,
     pub place: u32,
 }
@@ -17,5 +17,5 @@ pub enum Step {
     /// Nothing that is left to try.
     Stuck,
     /// The place from where the search goes on.
-    On(Position),
+    On(ColumnPlace),
 }

@@ -1,5 +1,5 @@
 -- What the searches of a phase leave.
-use Rattle.std.proofs.Common.{◌≡◌, ◌⊎◌, ◌↔◌, ◌∙◌, ℕ, ◌+◌, ◌-◌, ◌<◌, ◌≤◌, Bool, true, false, if◌then◌else◌, IsTrue, List, [], ◌∷◌, ◌++◌, length, refl, sym, ap, true≢false, subst, subst₂, inl, inr, ⊎_elim, arith}
+use Rattle.std.proofs.Common.{◌≡◌, ◌⊎◌, ◌∙◌, ℕ, ◌+◌, ◌<◌, ◌≤◌, Bool, true, false, List, [], ◌∷◌, ◌++◌, length, refl, sym, subst, subst₂, inl, inr, ⊎_elim, arith}
 use Rattle.std.proofs.lemmas.List.{length-map}
 use Rattle.std.specs.Bool.{OnFalse, OnTrue}
 use Rattle.bip_defs.specs.Lists.{Among}
@@ -8,7 +8,6 @@ use Rattle.bip_defs.specs.Matching.{Covers, IsMatching, IsMaximum, cols_of, tran
 use Rattle.bip_defs.specs.Matrix.{Matrix, Place, cols, transpose}
 use Rattle.bip_defs.specs.Parts.{MarkHorizontalRows}
 use Rattle.bip_defs.proofs.Closed.{closed_maximum}
-use Rattle.bip_defs.proofs.Full.{matching_few}
 use Rattle.bip_defs.proofs.Sets.{among_last}
 use Rattle.bip_defs.proofs.Transposed.{transpose_back, transpose_is, turned_maximum, turned_twice}
 use Rattle.bip_graph.specs.Matching.{Pairing}
@@ -55,9 +54,9 @@ progress_marks a start m marks roots told (inl stays) hold k long same = told k 
 pub roots_still : (a : Matrix) (m n : List Place) (roots : List ℕ) → Covers m n → HoldRoots a m roots → HoldRoots a n roots
 roots_still a m n roots stay hold = record { in_range = hold.in_range; complete = λ c root. hold.complete c (record { unmatched = λ on. root.unmatched (stay.cols c on); entry = root.entry }) }
 
-pub extends_either : (a : Matrix) (m n : Pairing) (old new : List Bool) (root : ℕ) (b : Bool) → OnTrue b (Augments root old m.pairs n.pairs) → OnFalse b ((n ≡ m) × Fails a m.pairs old new root) → Extends a m n old new root
-extends_either a m n old new root true found failed = extends_found a m n old new root found
-extends_either a m n old new root false found failed = extends_failed a m n old new root failed.0 failed.1
+pub extends_either : (a : Matrix) (m n : Pairing) (old new : List Bool) (root : ℕ) (b : Bool) → OnTrue b (Augments root old m.pairs n.pairs) → OnFalse b (n ≡ m) → OnFalse b (Fails a m.pairs old new root) → Extends a m n old new root
+extends_either a m n old new root true found same failed = extends_found a m n old new root found
+extends_either a m n old new root false found same failed = extends_failed a m n old new root same failed
 
 -- Phases that go on while they pay.
 

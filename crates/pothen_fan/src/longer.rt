@@ -2,10 +2,10 @@
 
 ghost use Rattle.std.specs.Prelude.{◌≡◌, ◌⊎◌, ◌+◌, ◌<◌, length, IfOk, IfSome};
 ghost use Rattle.bip_defs.specs.Matching.{Covers, IsMaximum};
-ghost use Rattle.bip_defs.specs.Matrix.{cols};
 ghost use Rattle.bip_defs.specs.Parts.{MarkHorizontalRows};
 ghost use Rattle.bip_graph.specs.Matching.{IsMatchingOf, IsMaximumOf};
 ghost use Rattle.path_search.specs.Growth.{GrowsUnlessMaximum};
+ghost use Rattle.path_search.specs.Search.{CanSearch};
 ghost use Rattle.pothen_fan.specs.Roots.{HoldRoots};
 
 use crate::sweep::sweep;
@@ -80,13 +80,9 @@ fn grow<F: Opposite, S: Side<F>>(
     roots: &[Col],
     reversed: bool,
 ) -> u32
-    requires matching { IsMatchingOf (S.matrix side.now) (F.seen matching.old) }
-    requires rows { length search.old.marks ≡ (S.matrix side.now).rows }
-    requires cols { search.old.cols ≡ cols (S.matrix side.now) }
+    requires ready { CanSearch (S.matrix side.now) (F.seen matching.old) search.old }
     requires roots { HoldRoots (S.matrix side.now) (F.seen matching.old).pairs roots.now }
-    ensures matching { IsMatchingOf (S.matrix side.now) (F.seen matching.new) }
-    ensures rows { length search.new.marks ≡ length search.old.marks }
-    ensures cols { search.new.cols ≡ search.old.cols }
+    ensures ready { CanSearch (S.matrix side.now) (F.seen matching.new) search.new }
     ensures covered { Covers (F.seen matching.old).pairs (F.seen matching.new).pairs }
     ensures growth { length (F.seen matching.new).pairs
         ≡ length (F.seen matching.old).pairs + result }

@@ -6,6 +6,7 @@ ghost use Rattle.bip_defs.specs.Matrix.{cols};
 ghost use Rattle.bip_defs.specs.Parts.{MarkHorizontalRows};
 ghost use Rattle.bip_graph.specs.Matching.{IsMatchingOf};
 ghost use Rattle.path_search.specs.Growth.{GrowsUnlessMaximum};
+ghost use Rattle.path_search.specs.Search.{CanSearch};
 ghost use Rattle.pothen_fan.specs.Roots.{Extends, HoldRoots};
 
 use bip_graph::{Matching, Opposite};
@@ -53,13 +54,9 @@ pub fn sweep<F: Opposite, S: Side<F>>(
     roots: &[Col],
     reversed: bool,
 )
-    requires matching { IsMatchingOf (S.matrix side.now) (F.seen matching.old) }
-    requires rows { length search.old.marks ≡ (S.matrix side.now).rows }
-    requires cols { search.old.cols ≡ cols (S.matrix side.now) }
+    requires ready { CanSearch (S.matrix side.now) (F.seen matching.old) search.old }
     requires roots { HoldRoots (S.matrix side.now) (F.seen matching.old).pairs roots.now }
-    ensures matching { IsMatchingOf (S.matrix side.now) (F.seen matching.new) }
-    ensures rows { length search.new.marks ≡ length search.old.marks }
-    ensures cols { search.new.cols ≡ search.old.cols }
+    ensures ready { CanSearch (S.matrix side.now) (F.seen matching.new) search.new }
     ensures covered { Covers (F.seen matching.old).pairs (F.seen matching.new).pairs }
 
     // Where the matching hasn't grown it was maximum, and the marked rows are the horizontal rows.
@@ -84,12 +81,8 @@ fn extend<F: Opposite, S: Side<F>>(
     reversed: bool,
 )
     requires root { root < cols (S.matrix side.now) }
-    requires matching { IsMatchingOf (S.matrix side.now) (F.seen matching.old) }
-    requires rows { length search.old.marks ≡ (S.matrix side.now).rows }
-    requires cols { search.old.cols ≡ cols (S.matrix side.now) }
-    ensures matching { IsMatchingOf (S.matrix side.now) (F.seen matching.new) }
-    ensures rows { length search.new.marks ≡ length search.old.marks }
-    ensures cols { search.new.cols ≡ search.old.cols }
+    requires ready { CanSearch (S.matrix side.now) (F.seen matching.old) search.old }
+    ensures ready { CanSearch (S.matrix side.now) (F.seen matching.new) search.new }
     ensures covered { Covers (F.seen matching.old).pairs (F.seen matching.new).pairs }
     ensures extends { Extends (S.matrix side.now) (F.seen matching.old)
         (F.seen matching.new) search.old.marks search.new.marks root }

@@ -4,7 +4,7 @@ use Rattle.mc21_match.proofs.ExtendLemmas.{searched_failed, searched_found, sear
 use Rattle.mc21_match.proofs.extend.Goals as goal
 
 pub forget-requires : goal.forget-requires
-forget-requires c = (c.args.search.now.marks, c.augment.ensures.marks)
+forget-requires c = (c.args.search.now.marks, c.augment.ensures.searched.marks)
 
 pub returns-in-Some-clause-searched : goal.returns-in-Some-clause-searched
 returns-in-Some-clause-searched c = searched_matched _ _ _ _ c.requires.searched (col_among _ _ c.args.matching.now.pairs c.in-Some.ensures.found)
@@ -15,10 +15,9 @@ returns-in-Some-clause-covered c = covers_none _
 pub returns-then-augment-clause-searched : goal.returns-then-augment-clause-searched
 returns-then-augment-clause-searched c =
     let e = c.augment.ensures in
-    searched_found _ _ _ _ c.augment.new.self _ _ c.requires.searched e.cols c.forget.ensures.cols e.marks c.forget.ensures.marks e.covered c.if-augment.ensures.found
+    searched_found _ _ _ _ c.augment.new.self _ _ c.requires.searched e.searched.cols c.forget.ensures.cols e.searched.marks c.forget.ensures.marks e.covered c.if-augment.ensures.found
 
 pub returns-else-augment-clause-searched : goal.returns-else-augment-clause-searched
 returns-else-augment-clause-searched c =
     let e = c.augment.ensures in
-    let failed = c.if-augment.ensures.failed in
-    searched_failed _ _ _ _ _ _ c.requires.searched e.cols e.marks failed.0 failed.1
+    searched_failed _ _ _ _ _ _ c.requires.searched e.searched.cols e.searched.marks c.if-augment.ensures.stays c.if-augment.ensures.failed

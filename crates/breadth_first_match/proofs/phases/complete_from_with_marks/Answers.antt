@@ -5,9 +5,11 @@ use Rattle.breadth_first_match.proofs.phases.complete_from_with_marks.Goals as g
 
 pub loop-phase-init : goal.loop-phase-init
 loop-phase-init g c = record {
-  matching = c.requires.matching;
-  rows = c.in_ok-forest.ensures.rows ∙ c.rows.ensures;
-  cols = c.in_ok-forest.ensures.cols ∙ c.cols.ensures;
+  ready = record {
+    rows = c.in_ok-forest.ensures.rows ∙ c.rows.ensures;
+    cols = c.in_ok-forest.ensures.cols ∙ c.cols.ensures;
+    matching = c.requires.matching;
+  };
   covered = covers_none _;
 }
 
@@ -16,9 +18,7 @@ loop-phase-preserved g c =
     let e = c.grow.ensures in
     let k = c.loop-phase.invariant in
     record {
-      matching = e.matching;
-      rows = e.rows ∙ k.rows;
-      cols = e.cols ∙ k.cols;
+      ready = e.ready;
       covered = covers_more k.covered e.covered;
     }
 

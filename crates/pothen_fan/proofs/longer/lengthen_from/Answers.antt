@@ -1,15 +1,17 @@
 use Rattle.std.proofs.Common.{◌∙◌, arith}
 use Rattle.bip_defs.proofs.Covers.{covers_more, covers_none}
 use Rattle.bip_defs.proofs.Full.{matching_few}
-use Rattle.pothen_fan.proofs.Phases.{growth_ends, roots_still, ungrown_maximum}
+use Rattle.pothen_fan.proofs.Phases.{roots_still}
 use Rattle.pothen_fan.proofs.Roots.{roots_hold}
 use Rattle.pothen_fan.proofs.longer.lengthen_from.Goals as goal
 
 pub loop-longer-init : goal.loop-longer-init
 loop-longer-init g c = record {
-  matching = c.requires.matching;
-  rows = c.in_ok-search.ensures.rows ∙ c.rows.ensures;
-  cols = c.in_ok-search.ensures.cols ∙ c.cols.ensures;
+  ready = record {
+    rows = c.in_ok-search.ensures.rows ∙ c.rows.ensures;
+    cols = c.in_ok-search.ensures.cols ∙ c.cols.ensures;
+    matching = c.requires.matching;
+  };
   roots = roots_hold _ _ _ c.in_ok-roots.ensures;
   covered = covers_none _;
   grown = omega arith;
@@ -18,7 +20,7 @@ loop-longer-init g c = record {
 pub loop-longer-smaller : goal.loop-longer-smaller
 loop-longer-smaller g c =
     let e = c.grow-growth.ensures in
-    let few = matching_few (g.S.Side.matrix c.args.side.now) (g.F.Opposite.seen c.grow-growth.new.matching).pairs e.matching.matching in
+    let few = matching_few (g.S.Side.matrix c.args.side.now) (g.F.Opposite.seen c.grow-growth.new.matching).pairs e.ready.matching.matching in
     let more = e.growth in
     omega (arith, c.if-growth-eq0.false)
 
@@ -28,9 +30,7 @@ loop-longer-preserved g c =
     let k = c.loop-longer.invariant in
     let longer = e.growth in
     record {
-      matching = e.matching;
-      rows = e.rows ∙ k.rows;
-      cols = e.cols ∙ k.cols;
+      ready = e.ready;
       roots = roots_still _ _ _ _ e.covered k.roots;
       covered = covers_more k.covered e.covered;
       grown = let le = k.grown in omega (arith, le, longer);

@@ -8,4 +8,4 @@ returns-in-Some-clause-extends g c = extends_matched _ _ _ _ (col_among _ _ (g.F
 pub returns-in-None-clause-extends : goal.returns-in-None-clause-extends
 returns-in-None-clause-extends g c =
     let e = c.augment.ensures in
-    extends_either _ _ _ _ _ _ c.augment.result e.found e.failed
+    extends_either _ _ _ _ _ _ c.augment.result e.found e.stays e.failed

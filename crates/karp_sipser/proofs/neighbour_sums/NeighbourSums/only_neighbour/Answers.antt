@@ -14,10 +14,10 @@ use Rattle.karp_sipser.proofs.neighbour_sums.NeighbourSums.only_neighbour.Goals.
 pub returns-then-mate-self-clause-none : goal.returns-then-mate-self-clause-none
 returns-then-mate-self-clause-none g c o =
     let s = c.args.self.now in
-    let read : slice_index s.words.items c.args.vertex ≡ c.index.result.now = read_at s.words.items c.args.vertex c.index.result.now (omega (arith, c.requires.vertex, c.requires.sums.long)) c.index.ensures in
+    let read : slice_index s.words.items c.args.vertex ≡ c.index.result.now = read_at s.words.items c.args.vertex c.index.result.now (omega (arith, c.requires.vertex, c.requires.sums.sums.long)) c.index.ensures in
     elim c.then-mate-self.branch [
       | then-mate-self-via-then-mate-self w ↦
-          let looks : LooksLikeOne s.unit c.index.result.now = subst (LooksLikeOne s.unit) read (col_looks _ _ s c.args.vertex c.requires.sums o) in
+          let looks : LooksLikeOne s.unit c.index.result.now = subst (LooksLikeOne s.unit) read (col_looks _ _ s c.args.vertex c.requires.sums.sums o) in
           let off = w.if-mate-self.true in
           absurd (omega (arith, looks, off))
       | then-mate-self-via-else-mate-self+then-is_some w ↦
@@ -30,26 +30,26 @@ returns-then-not-self-clause-only g c =
     let s = c.args.self.now in
     let a : Matrix = g.S.Side.matrix c.args.side.now in
     let m : List Place = (g.I.Opposite.seen c.args.matching.now).pairs in
-    let read : slice_index s.words.items c.args.vertex ≡ c.index.result.now = read_at s.words.items c.args.vertex c.index.result.now (omega (arith, c.requires.vertex, c.requires.sums.long)) c.index.ensures in
+    let read : slice_index s.words.items c.args.vertex ≡ c.index.result.now = read_at s.words.items c.args.vertex c.index.result.now (omega (arith, c.requires.vertex, c.requires.sums.sums.long)) c.index.ensures in
     let apart : ¬ Among c.args.vertex (cols_of m) = none_is c.row_of.result c.is_some.result _ c.is_some.ensures c.if-is_some.false c.row_of.ensures.none in
     let looks : LooksLikeOne s.unit (slice_index s.words.items c.args.vertex) = subst (LooksLikeOne s.unit) (sym read) c.if-mate-self.false in
     subst (λ w. IsOnly (λ r. IsFree a m r c.args.vertex) (wrapping_sub w s.unit)) read
-    (col_only a m s c.args.vertex c.requires.sums c.requires.vertex apart (c.requires.sums.short c.if-not-self.true c.args.vertex c.requires.vertex) looks)
+    (col_only a m s c.args.vertex c.requires.sums.sums c.requires.vertex apart (c.requires.sums.sums.short c.if-not-self.true c.args.vertex c.requires.vertex) looks)
 
 pub returns-then-not-is_long-clause-only : goal.returns-then-not-is_long-clause-only
 returns-then-not-is_long-clause-only g c =
     let s = c.args.self.now in
     let a : Matrix = g.S.Side.matrix c.args.side.now in
     let m : List Place = (g.I.Opposite.seen c.args.matching.now).pairs in
-    let read : slice_index s.words.items c.args.vertex ≡ c.index.result.now = read_at s.words.items c.args.vertex c.index.result.now (omega (arith, c.requires.vertex, c.requires.sums.long)) c.index.ensures in
+    let read : slice_index s.words.items c.args.vertex ≡ c.index.result.now = read_at s.words.items c.args.vertex c.index.result.now (omega (arith, c.requires.vertex, c.requires.sums.sums.long)) c.index.ensures in
     let apart : ¬ Among c.args.vertex (cols_of m) = none_is c.row_of.result c.is_some.result _ c.is_some.ensures c.if-is_some.false c.row_of.ensures.none in
     let looks : LooksLikeOne s.unit (slice_index s.words.items c.args.vertex) = subst (LooksLikeOne s.unit) (sym read) c.if-mate-self.false in
     let long_is : length c.rows_of-ids.result.now ≡ length (column a c.args.vertex) = sym (length-map c.rows_of-ids.result.now g.I.Id.number) ∙ ap length c.rows_of-ids.ensures.column in
     subst (λ w. IsOnly (λ r. IsFree a m r c.args.vertex) (wrapping_sub w s.unit)) read
-    (col_only a m s c.args.vertex c.requires.sums c.requires.vertex apart (subst (IsShort s.unit) long_is (c.is_long.ensures c.if-not-is_long.true)) looks)
+    (col_only a m s c.args.vertex c.requires.sums.sums c.requires.vertex apart (subst (IsShort s.unit) long_is (c.is_long.ensures c.if-not-is_long.true)) looks)
 
 pub only_unmatched-requires-clause-in_range : goal.only_unmatched-requires-clause-in_range
-only_unmatched-requires-clause-in_range g c x h = omega (arith, (c.rows_of-ids.ensures.rows.sound x h).0, c.requires.rows)
+only_unmatched-requires-clause-in_range g c x h = omega (arith, (c.rows_of-ids.ensures.rows.sound x h).0, c.requires.sums.rows)
 
 pub returns-clause-only : goal.returns-clause-only
 returns-clause-only g c =

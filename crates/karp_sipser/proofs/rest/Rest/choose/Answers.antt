@@ -8,21 +8,25 @@ use Rattle.karp_sipser.proofs.Prefixes.{known_none}
 use Rattle.karp_sipser.proofs.rest.Rest.choose.Goals as goal
 
 pub returns-in-Some-clause-choice : goal.returns-in-Some-clause-choice
-returns-in-Some-clause-choice c = by_col c.in-Some.row c.in-Some.col c.in-Some.ensures.least c.in-Some.ensures.only.0
+returns-in-Some-clause-choice c = by_col c.in-Some.row c.in-Some.col c.in-Some.ensures.taken.least c.in-Some.ensures.taken.only.0
 
 pub returns-in-Some-clause-ones : goal.returns-in-Some-clause-ones
-returns-in-Some-clause-ones c = record { of_cols = c.in-Some.ensures.ones; of_rows = λ x ne o. c.requires.ones.of_rows x o }
+returns-in-Some-clause-ones c = record { of_cols = c.in-Some.ensures.taken.ones; of_rows = λ x ne o. c.requires.ones.of_rows x o }
 
-pub take_of_one-requires-2-clause-cols : goal.take_of_one-requires-2-clause-cols
-take_of_one-requires-2-clause-cols c = c.requires.rest.same_rows ∙ sym (transpose_cols c.args.sides.now.pattern.now)
+pub take_of_one-requires-2-clause-sums : goal.take_of_one-requires-2-clause-sums
+take_of_one-requires-2-clause-sums c = record {
+  rows = c.requires.rest.same_cols;
+  cols = c.requires.rest.same_rows ∙ sym (transpose_cols c.args.sides.now.pattern.now);
+  sums = c.requires.rest.rows_sums;
+}
 
 pub returns-in-Some-take_of_one-clause-choice : goal.returns-in-Some-take_of_one-clause-choice
 returns-in-Some-take_of_one-clause-choice c =
     let w = c.in-Some-take_of_one in
-    chooses_row c.args.sides.now.pattern.now c.args.self.now.matching.pairs w.row w.col c.in_default.ensures.none w.ensures.least w.ensures.only
+    chooses_row c.args.sides.now.pattern.now c.args.self.now.matching.pairs w.row w.col c.in_default.ensures.none w.ensures.taken.least w.ensures.taken.only
 
 pub returns-in-Some-take_of_one-clause-ones : goal.returns-in-Some-take_of_one-clause-ones
-returns-in-Some-take_of_one-clause-ones c = record { of_cols = λ x ne o. absurd (c.in_default.ensures.none x o); of_rows = c.in-Some-take_of_one.ensures.ones }
+returns-in-Some-take_of_one-clause-ones c = record { of_cols = λ x ne o. absurd (c.in_default.ensures.none x o); of_rows = c.in-Some-take_of_one.ensures.taken.ones }
 
 pub returns-in_err-row-clause-none : goal.returns-in_err-row-clause-none
 returns-in_err-row-clause-none c =

@@ -1,12 +1,13 @@
-use Rattle.std.proofs.Common.{◌≡◌, ◌∙◌, ℕ, ◌<◌, List, length, map, refl, ap, sym, subst, arith}
+use Rattle.std.proofs.Common.{◌∙◌, ℕ, ◌<◌, List, length, map, refl, sym, subst, arith}
 use Rattle.bip_defs.proofs.Sets.{entry_col, lists_same}
 use Rattle.bip_defs.proofs.Transposed.{row_list_lists, transpose_cols, transpose_column, transpose_is}
 use Rattle.bip_defs.specs.Lists.{Lists}
 use Rattle.bip_defs.specs.Matching.{transposed_places}
 use Rattle.bip_defs.specs.Matrix.{IsEntry, Matrix, Place, column, transpose}
 use Rattle.bip_defs.specs.Start.{IsFree}
+use Rattle.karp_sipser.specs.NeighbourSums.{LeavesOut}
 use Rattle.karp_sipser.proofs.Free.{Adds, adds_turned, free_before, free_turned, turned_free}
-use Rattle.karp_sipser.proofs.LeftOut.{AreBeside, IsAfter, IsTaking, after_at, beside_known, beside_same, ones_after, sums_after}
+use Rattle.karp_sipser.proofs.LeftOut.{AreBeside, IsTaking, after_at, beside_known, beside_same, ones_after, sums_after}
 use Rattle.karp_sipser.proofs.rest.Rest.take.Goals as goal
 
 -- the list of a row, as a column of the transpose
@@ -71,10 +72,8 @@ returns c =
       free = free_turned a old c.args.row c.args.col free;
       beside = beside_same (λ r. IsEntry a r c.args.col) (λ r. IsFree a old r c.args.col) (λ r. IsEntry (transpose a) c.args.col r) (λ r. IsFree (transpose a) (transposed_places old) c.args.col r) c.args.row rs (λ r e. (transpose_is a).over r c.args.col e) (λ r f. turned_free a old r c.args.col f) in_col;
     } in
-    let after_rows : IsAfter c.args.row c.args.col rs s.rows c.leave_out.new.self = after_at _ _ c.args.row c.args.col rs s.rows c.leave_out.new.self c.row.view_is c.col.view_is
-    (record { left_out = c.leave_out.ensures.left_out; kept = c.leave_out.ensures.kept; grows = c.leave_out.ensures.grows; bound = c.leave_out.ensures.bound; long = c.leave_out.ensures.long; unit = c.leave_out.ensures.unit; some_long = c.leave_out.ensures.some_long }) in
-    let after_cols : IsAfter c.args.col c.args.row cs s.cols c.leave_out-2.new.self = after_at _ _ c.args.col c.args.row cs s.cols c.leave_out-2.new.self c.col.view_is c.row.view_is
-    (record { left_out = c.leave_out-2.ensures.left_out; kept = c.leave_out-2.ensures.kept; grows = c.leave_out-2.ensures.grows; bound = c.leave_out-2.ensures.bound; long = c.leave_out-2.ensures.long; unit = c.leave_out-2.ensures.unit; some_long = c.leave_out-2.ensures.some_long }) in
+    let after_rows : LeavesOut c.args.row c.args.col rs s.rows c.leave_out.new.self = after_at _ _ c.args.row c.args.col rs s.rows c.leave_out.new.self c.row.view_is c.col.view_is c.leave_out.ensures in
+    let after_cols : LeavesOut c.args.col c.args.row cs s.cols c.leave_out-2.new.self = after_at _ _ c.args.col c.args.row cs s.cols c.leave_out-2.new.self c.col.view_is c.row.view_is c.leave_out-2.ensures in
     record {
       rest = record {
         same_rows = c.pair.ensures.sizes.0 ∙ rest.same_rows;

@@ -1,16 +1,11 @@
 use Rattle.std.proofs.Common.{◌+◌, ◌-◌, ◌≤◌}
-use Rattle.bip_defs.specs.Matching.{Covers}
-use Rattle.bip_graph.specs.Matching.{IsMatchingOf}
-use Rattle.path_search.specs.Forests.{Extends, IsForest, Progresses}
+use Rattle.path_search.specs.Forests.{GrowOn, Progresses}
 use Rattle.path_search.proofs.forest.SearchForest.batch.Given as goal
 
 abbrev pub invariant-loop-at : goal.invariant-loop-at
 invariant-loop-at g l = record {
   within : l.at ≤ l.count;
-  forest : IsForest (g.S.Side.matrix l.side) (g.F.Opposite.seen l.matching).pairs l.self;
-  extends : Extends l.fn.self l.self;
-  matching : IsMatchingOf (g.S.Side.matrix l.side) (g.F.Opposite.seen l.matching);
-  covered : Covers (g.F.Opposite.seen l.fn.matching).pairs (g.F.Opposite.seen l.matching).pairs;
+  grown : GrowOn (g.S.Side.matrix l.side) (g.F.Opposite.seen l.fn.matching) (g.F.Opposite.seen l.matching) l.fn.self l.self;
   progresses : Progresses (g.S.Side.matrix l.side) (g.F.Opposite.seen l.fn.matching) (g.F.Opposite.seen l.matching) l.fn.self l.self l.place (l.place + l.at);
 }
 

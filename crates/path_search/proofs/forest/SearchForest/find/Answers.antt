@@ -5,7 +5,7 @@ use Rattle.path_search.proofs.SweepLemmas.{forest_short}
 use Rattle.path_search.proofs.forest.SearchForest.find.Goals as goal
 
 pub visit-requires-clause-room : goal.visit-requires-clause-room
-visit-requires-clause-room g c = λ d pair un. room_more _ _ _ c.in-Some.row d c.requires.matching.matching c.loop-row.invariant.forest pair un
+visit-requires-clause-room g c = λ d pair un. room_more _ _ _ c.in-Some.row d c.requires.growing.matching.matching c.loop-row.invariant.forest pair un
 
 pub returns-then-visit-clause-forest : goal.returns-then-visit-clause-forest
 returns-then-visit-clause-forest g c =
@@ -20,13 +20,12 @@ returns-then-visit-clause-extends g c =
 pub returns-then-visit-clause-found : goal.returns-then-visit-clause-found
 returns-then-visit-clause-found g c =
     let k = c.loop-row.invariant in
-    let found = ends_at _ _ _ _ c.in-Some.row _ _ k.forest k.within c.at-column.ensures c.in-Some.ensures.row.0 k.unmatched (rw c.if-visit.true at c.visit.ensures) in
-    record { within = found.within; leaf = found.leaf; unmatched = found.unmatched }
+    (ends_at _ _ _ _ c.in-Some.row _ _ k.forest k.within c.at-column.ensures c.in-Some.ensures.row.0 k.unmatched (rw c.if-visit.true at c.visit.ensures)).ends
 
 pub overflow_cast-place : goal.overflow_cast-place
 overflow_cast-place g c =
     let k = c.loop-row.invariant in
-    let d = descended _ _ _ _ c.in-Some.row _ _ c.requires.matching.matching k.forest k.within c.at-column.ensures c.in-Some.ensures.row.0 (rw c.marks.ensures at c.in-Some.ensures.row.1) (rw c.if-visit.false at c.visit.ensures) in
+    let d = descended _ _ _ _ c.in-Some.row _ _ c.requires.growing.matching.matching k.forest k.within c.at-column.ensures c.in-Some.ensures.row.0 (rw c.marks.ensures at c.in-Some.ensures.row.1) (rw c.if-visit.false at c.visit.ensures) in
     let short = forest_short _ _ _ d.forest in
     let few = c.sizes_fit.ensures.cols in
     let count = c.reached.ensures in
@@ -35,7 +34,7 @@ overflow_cast-place g c =
 pub loop-row-smaller-in-Some : goal.loop-row-smaller-in-Some
 loop-row-smaller-in-Some g c =
     let k = c.loop-row.invariant in
-    let d = descended _ _ _ _ c.in-Some.row _ _ c.requires.matching.matching k.forest k.within c.at-column.ensures c.in-Some.ensures.row.0 (rw c.marks.ensures at c.in-Some.ensures.row.1) (rw c.if-visit.false at c.visit.ensures) in
+    let d = descended _ _ _ _ c.in-Some.row _ _ c.requires.growing.matching.matching k.forest k.within c.at-column.ensures c.in-Some.ensures.row.0 (rw c.marks.ensures at c.in-Some.ensures.row.1) (rw c.if-visit.false at c.visit.ensures) in
     let count = c.reached.ensures in
     let longer = d.longer in
     falls _ _ _ _ _ longer (forest_short _ _ _ d.forest) (omega (arith, count, longer))
@@ -43,7 +42,7 @@ loop-row-smaller-in-Some g c =
 pub loop-row-preserved-in-Some : goal.loop-row-preserved-in-Some
 loop-row-preserved-in-Some g c =
     let k = c.loop-row.invariant in
-    let d = descended _ _ _ _ c.in-Some.row _ _ c.requires.matching.matching k.forest k.within c.at-column.ensures c.in-Some.ensures.row.0 (rw c.marks.ensures at c.in-Some.ensures.row.1) (rw c.if-visit.false at c.visit.ensures) in
+    let d = descended _ _ _ _ c.in-Some.row _ _ c.requires.growing.matching.matching k.forest k.within c.at-column.ensures c.in-Some.ensures.row.0 (rw c.marks.ensures at c.in-Some.ensures.row.1) (rw c.if-visit.false at c.visit.ensures) in
     let count = c.reached.ensures in
     let longer = d.longer in
     let same : c.reached.result - 1 ≡ length c.loop-row.self.queue = omega (arith, count, longer) in

@@ -8,7 +8,7 @@ use Rattle.path_search.proofs.forest.SearchForest.shortest.Goals as goal
 pub overflow_cast-root : goal.overflow_cast-root
 overflow_cast-root g c =
     let k = c.loop-root.invariant in
-    let short = forest_short _ _ _ k.forest in
+    let short = forest_short _ _ _ k.growing.forest in
     let few = c.sizes_fit.ensures.cols in
     let roots = k.roots in
     omega (arith, short, few, roots, c.loop-root-test.true)
@@ -18,12 +18,11 @@ loop-root-preserved g c =
     let k = c.loop-root.invariant in
     let e = c.extend.ensures in
     let roots = k.roots in
-    let longer = extended_length _ _ e.extends in
+    let longer = extended_length _ _ e.trees.extends in
     record {
-      forest = e.forest;
+      growing = e.trees.growing;
       roots = omega (arith, roots, longer);
       layers = e.layers;
-      matching = e.matching;
-      covered = covers_more k.covered e.covered;
+      covered = covers_more k.covered e.trees.covered;
       grown = grown_on _ _ _ k.grown e.grown;
     }
