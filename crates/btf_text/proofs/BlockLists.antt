@@ -11,7 +11,7 @@ use Rattle.btf_text.specs.Readable.{AreBlocksLike, IsBlockLike}
 use Rattle.btf_text.specs.ReportGrammar.{◌>>=◌, Stops, block_at, blocks_at, square_at, two_at}
 use Rattle.btf_text.proofs.Prefixes.{no_prefix, regroup, stops_so, with_prefix}
 use Rattle.btf_text.proofs.ListLines.{two_again, two_takes}
-use Rattle.btf_text.proofs.Listed.{block_again, block_takes, line_first}
+use Rattle.btf_text.proofs.Listed.{block_again, block_takes, line_first, of_lists}
 use Rattle.btf_text.proofs.Spelled.{bind_some, some_is, where_some}
 use Rattle.bip_defs.proofs.Together.{more_rows}
 
@@ -29,9 +29,6 @@ blocks_begin size count bytes = record {
   rows_fit = omega arith;
   cols_fit = omega arith;
 }
-
-abbrev of_lists : List ℕ × List ℕ → Block
-of_lists l = record { rows = l.0; cols = l.1 }
 
 next : (blocks : List Block) (count at room : ℕ) (bytes : List ℕ) (b : (List ℕ × List ℕ) × List ℕ) → at < count → block_at (at + 1) room bytes ≡ Some b
     → with_prefix blocks (blocks_at (count - at) (at + 1) room bytes) ≡ with_prefix (blocks ++ of_lists b.0 ∷ []) (blocks_at (count - (at + 1)) (at + 1 + 1) (room - length b.0.0) b.1)

@@ -1,9 +1,8 @@
 -- How a text goes through a buffer to its sink.
 use Rattle.std.proofs.Common.{OnOk, OnErr, Result, Ok, Err, ◌≡◌, ℕ, Bool, true, false, List, [], ◌++◌, Option, None, Some, append_assoc, append-nil, refl, sym, ap, ◌∙◌, subst}
-use Rattle.bip_graph.specs.Texts.{TextLine, text_of}
 use Rattle.sp_ports.specs.Bytes.{Takes, TakesPrefix}
 use Rattle.sp_ports.specs.Device.{Device, Took, TookPrefix, Writes}
-use Rattle.btf_text.specs.Buffered.{Appends, AppendsLines, Buffered, HasTaken, Stands, since}
+use Rattle.btf_text.specs.Buffered.{Appends, Buffered, HasTaken, Stands, since}
 
 -- the same text
 stands_as : (d : Device) (buf : Buffered) (text other : List ℕ) → text ≡ other → Stands d buf text → Stands d buf other
@@ -84,12 +83,12 @@ takes_nothing : (taken : Option (List ℕ)) → Takes taken taken []
 takes_nothing None = tt
 takes_nothing (Some bytes) = sym (append-nil bytes)
 
--- lines that begin a text
-pub begun : {t0 t1 : Option (List ℕ)} {f0 f1 : ℕ} {buf after : Buffered} {ls : List TextLine}
-    → buf ≡ record { bytes = []; failed = false } → AppendsLines (since t0 f0 t1 f1) buf after ls
-    → Stands (since t0 f0 t1 f1) after (text_of ls)
+-- bytes that begin a text
+pub begun : {t0 t1 : Option (List ℕ)} {f0 f1 : ℕ} {buf after : Buffered} {bytes : List ℕ}
+    → buf ≡ record { bytes = []; failed = false } → Appends (since t0 f0 t1 f1) buf after bytes
+    → Stands (since t0 f0 t1 f1) after bytes
 begun {t0 = t0} {f0 = f0} fresh p =
-    p.appends t0 f0 []
+    p t0 f0 []
     (subst (λ (b : Buffered). Stands (since t0 f0 t0 f0) b []) (sym fresh)
     (record { taken = ([], refl, record { bytes = takes_nothing t0; steady = refl }) }))
 

@@ -11,7 +11,7 @@ use Rattle.btf_text.specs.Readable.{AreComponentsLike, AreNumberedLike, IsCompon
 use Rattle.btf_text.specs.ReportGrammar.{◌>>=◌, Stops, component_at, components_at, counted_at, lists_at, numbered_at, one_at, three_at}
 use Rattle.btf_text.proofs.Prefixes.{no_prefix, regroup, stops_so, with_prefix}
 use Rattle.btf_text.proofs.ListLines.{one_again, one_takes, three_again, three_takes}
-use Rattle.btf_text.proofs.Listed.{line_first, lists_again, lists_take, not_both, some_there}
+use Rattle.btf_text.proofs.Listed.{line_first, lists_again, lists_take, not_both, of_lists, some_there}
 use Rattle.btf_text.proofs.Spelled.{bind_some, some_is, unless_some, where_some}
 
 -- ---- one component
@@ -58,9 +58,6 @@ component_again number b rest like small =
     ) (lists_again b.rows b.cols rest like.rows like.cols)
 
 -- ---- in a loop
-
-abbrev of_lists : List ℕ × List ℕ → Block
-of_lists l = record { rows = l.0; cols = l.1 }
 
 -- So many components were read. What is read from here on, behind them, is what is read of all.
 abbrev pub HaveNumbered : List Block → ℕ → ℕ → List ℕ → Option (List Block × List ℕ) → Type 0

@@ -17,6 +17,7 @@ pub mod PairLines
 pub mod PairLists
 pub mod Parts
 pub mod Prefixes
+pub mod Puts
 pub mod Reports
 pub mod Risen
 pub mod Rising

@@ -14,6 +14,10 @@ both : (a b : Bool) → (a && b) ≡ true → (a ≡ true) × (b ≡ true)
 both true b e = (refl, e)
 both false b e = absurd (true≢false (sym e))
 
+-- two lists as a block
+abbrev pub of_lists : List ℕ × List ℕ → Block
+of_lists l = record { rows = l.0; cols = l.1 }
+
 -- two lines in front of more bytes
 lists_before : (rows cols rest : List ℕ) → text_of (lists rows cols) ++ rest ≡ spelled (line (codes "rows") (counted rows)) ++ (spelled (line (codes "columns") (counted cols)) ++ rest)
 lists_before rows cols rest =

@@ -1,13 +1,12 @@
 -- Pairs, column by column.
-use Rattle.std.proofs.Common.{codes, decimal, ◌≡◌, ◌≢◌, ◌⊎◌, ◌<◌, ◌+◌, ℕ, suc, Bool, true, false, List, [], ◌∷◌, ◌++◌, map, filter, length, nat_eq, nat_lt, refl, sym, ap, ap₂, ◌∙◌, subst, inl, inr, arith, Some, le-ltb, lt-ltb, eq-eqb}
+use Rattle.std.proofs.Common.{codes, decimal, ◌≡◌, ◌≢◌, ◌⊎◌, ◌<◌, ◌+◌, ℕ, suc, Bool, true, false, List, [], ◌∷◌, ◌++◌, map, filter, length, nat_eq, nat_lt, refl, sym, ap, ap₂, ◌∙◌, subst, inl, inr, arith, le-ltb, lt-ltb, eq-eqb}
 use Rattle.std.proofs.lemmas.List.{map-append}
 use Rattle.std.proofs.lemmas.Bool.Decides.{eqb_tells, leb_tells}
 use Rattle.bip_defs.specs.Lists.{Among, IsBelowEach, IsRising}
 use Rattle.bip_defs.specs.Matching.{cols_of}
 use Rattle.bip_defs.specs.Matrix.{Place}
 use Rattle.bip_defs.proofs.Sets.{below_each_sound, col_among}
-use Rattle.bip_graph.specs.Answers.{where_asked}
-use Rattle.bip_graph.specs.Texts.{TextLine, line, pair_line, pair_lines}
+use Rattle.bip_graph.specs.Texts.{TextLine, line, pair_line}
 use Rattle.btf_text.specs.Columns.{pairs_at, pairs_before}
 
 -- the line of a pair, from its digits
@@ -73,9 +72,3 @@ pub columns_go_on : (c : ℕ) (head : TextLine) (m : List Place) → IsRising (c
     → (head ∷ map pair_line (pairs_before c m)) ++ map pair_line (pairs_at c m) ≡ head ∷ map pair_line (pairs_before (c + 1) m)
 columns_go_on c head m rising =
     ap (λ (ls : List TextLine). head ∷ ls) (sym (ap (map pair_line) (before_more c m rising) ∙ map-append pair_line (pairs_before c m) (pairs_at c m)))
-
-pub no_pairs : (asked : Bool) (m : List Place) → asked ≡ false → [] ≡ pair_lines (where_asked asked m)
-no_pairs asked m e = sym (ap (λ (b : Bool). pair_lines (where_asked b m)) e)
-
-pub all_pairs : (asked : Bool) (m : List Place) → asked ≡ true → pair_lines (Some m) ≡ pair_lines (where_asked asked m)
-all_pairs asked m e = sym (ap (λ (b : Bool). pair_lines (where_asked b m)) e)

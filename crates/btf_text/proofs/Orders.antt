@@ -1,17 +1,10 @@
 -- Blocks one after another, and lists over three lists.
-use Rattle.std.proofs.Common.{Bool, true, false, arith, codes, decimal, map, ◌≡◌, ◌<◌, ◌+◌, ℕ, suc, List, [], ◌∷◌, ◌++◌, length, take, append_assoc, sym, ap, ap₂, ◌∙◌, Option}
+use Rattle.std.proofs.Common.{arith, codes, decimal, map, ◌≡◌, ◌<◌, ◌+◌, ℕ, suc, List, [], ◌∷◌, ◌++◌, length, take, append_assoc, sym, ap, ap₂, ◌∙◌}
 use Rattle.std.proofs.lemmas.List.{length-take-le, map-append, take_more}
 use Rattle.std.proofs.lemmas.Grind.{flat_map-append}
 use Rattle.bip_defs.specs.Blocks.{Block, block_at, no_block}
-use Rattle.bip_graph.specs.Answers.{where_asked}
-use Rattle.bip_graph.specs.Texts.{TextLine, block_lines, component_lines, counted, line, lists, order_lines, spaced, spelled}
-use Rattle.btf_text.specs.Buffered.{AppendsLines, Buffered, since}
-use Rattle.btf_text.proofs.BufferLaws.{appends_none}
+use Rattle.bip_graph.specs.Texts.{TextLine, block_lines, component_lines, counted, line, lists, spaced, spelled}
 use Rattle.btf_text.proofs.Parts.{same_ids}
-
--- no lines
-pub lines_none : (taken : Option (List ℕ)) (faults : ℕ) (buf : Buffered) → AppendsLines (since taken faults taken faults) buf buf []
-lines_none taken faults buf = record { appends = appends_none taken faults buf }
 
 blocks_more : (k n : ℕ) (bs : List Block) (b : Block) → n ≡ k + length bs
     → block_lines k (bs ++ b ∷ []) ≡ block_lines k bs ++ (line (codes "block") (n ∷ length b.rows ∷ []) ∷ lists b.rows b.cols)
@@ -63,10 +56,3 @@ pub same_order : (word : List ℕ) {a b c d e f : List ℕ} → a ≡ d → b �
     → line word (counted (map (λ (n : ℕ). n) (a ++ b ++ c))) ∷ [] ≡ line word (counted (d ++ e ++ f)) ∷ []
 same_order word {b = b} {c = c} {d = d} {e = e} {f = f} one two three =
     ap (λ (t : List ℕ). line word (counted t) ∷ []) (same_ids _ ∙ ap (λ (t : List ℕ). t ++ b ++ c) one ∙ ap (λ (t : List ℕ). d ++ t ++ c) two ∙ ap (λ (t : List ℕ). d ++ e ++ t) three)
-
-pub no_orders : (asked : Bool) (orders : List ℕ × List ℕ) → asked ≡ false → [] ≡ order_lines (where_asked asked orders)
-no_orders asked orders e = sym (ap (λ (b : Bool). order_lines (where_asked b orders)) e)
-
-pub both_orders : (asked : Bool) (orders : List ℕ × List ℕ) → asked ≡ true
-    → line (codes "row_order") (counted orders.0) ∷ line (codes "column_order") (counted orders.1) ∷ [] ≡ order_lines (where_asked asked orders)
-both_orders asked orders e = sym (ap (λ (b : Bool). order_lines (where_asked b orders)) e)

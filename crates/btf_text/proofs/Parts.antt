@@ -1,28 +1,12 @@
-use Rattle.btf_text.proofs.BufferLaws.{appends_as, appends_then}
 -- Texts of several lines, and parts.
-use Rattle.std.proofs.Common.{codes, inl, inr, map, ◌≡◌, ◌≢◌, ◌+◌, ◌==◌, if◌then◌else◌, ℕ, Bool, false, List, [], ◌∷◌, ◌++◌, length, sym, ap, ap₂, ◌∙◌, subst, Option}
+use Rattle.std.proofs.Common.{codes, inl, inr, map, ◌≡◌, ◌≢◌, ◌+◌, ◌==◌, if◌then◌else◌, ℕ, Bool, false, List, [], ◌∷◌, length, sym, ap, ap₂, ◌∙◌, Option}
 use Rattle.std.proofs.lemmas.List.{map-id}
-use Rattle.std.proofs.lemmas.Grind.{flat_map-append}
 use Rattle.std.proofs.lemmas.Bool.Decides.{eqb_tells}
 use Rattle.std.proofs.lemmas.List.Concat.{length-flat_map}
 use Rattle.bip_defs.specs.Blocks.{Block, all_rows}
-use Rattle.bip_graph.specs.Texts.{TextLine, line, lists, part, spelled, square_line, text_of}
+use Rattle.bip_graph.specs.Answers.{where_asked}
+use Rattle.bip_graph.specs.Texts.{line, lists, part, square_line}
 use Rattle.btf_text.specs.Reports.{lengths_line}
-use Rattle.sp_ports.specs.Device.{Device}
-use Rattle.btf_text.specs.Buffered.{AppendsLines, Buffered, since}
-
--- some lines, and then others
-pub lines_then : {t0 t1 t2 : Option (List ℕ)} {f0 f1 f2 : ℕ} {buf mid after : Buffered} {first second : List TextLine}
-    → AppendsLines (since t0 f0 t1 f1) buf mid first → AppendsLines (since t1 f1 t2 f2) mid after second
-    → AppendsLines (since t0 f0 t2 f2) buf after (first ++ second)
-lines_then {first = first} {second = second} one two = record {
-  appends = appends_as _ (text_of (first ++ second)) (sym (flat_map-append spelled first second)) (appends_then (text_of first) (text_of second) one.appends two.appends);
-}
-
--- the same lines
-pub lines_as : {d : Device} {buf after : Buffered} {first second : List TextLine}
-    → first ≡ second → AppendsLines d buf after first → AppendsLines d buf after second
-lines_as {d = d} {buf = buf} {after = after} e p = subst (λ (ls : List TextLine). AppendsLines d buf after ls) e p
 
 pub part-empty : (word rows cols : List ℕ) → length rows + length cols ≡ 0 → line word (length rows ∷ length cols ∷ []) ∷ [] ≡ part word rows cols
 part-empty word rows cols e = sym (ap (λ (n : ℕ). line word (length rows ∷ length cols ∷ []) ∷ (if n == 0 then [] else lists rows cols)) e)
@@ -59,3 +43,7 @@ pub same_square : {rows : List ℕ} {count : ℕ} (blocks : List Block) → rows
     → line (codes "square") (length rows ∷ count ∷ []) ∷ [] ≡ square_line blocks ∷ []
 same_square blocks rows_are count_is =
     ap₂ (λ (s b : ℕ). line (codes "square") (s ∷ b ∷ []) ∷ []) (ap length rows_are ∙ length-flat_map (λ (b : Block). b.rows) blocks) count_is
+
+-- what is written of something that is asked for or not
+pub asked_for : {X Y : Type 0} (f : Option X → Y) (x : X) {asked told : Bool} → asked ≡ told → f (where_asked told x) ≡ f (where_asked asked x)
+asked_for f x e = sym (ap (λ (b : Bool). f (where_asked b x)) e)

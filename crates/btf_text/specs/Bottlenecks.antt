@@ -8,13 +8,17 @@ use Rattle.bip_graph.specs.declared.answers.Bottleneck.TheVariants.{Best, Rectan
 use Rattle.btf_text.specs.Diagonals.{entry_line, rectangular_line, singular_lines}
 use Rattle.sp_pattern.specs.Weights.{Weighing, weight_at}
 
+-- the matrix with the entries alone whose weight is greater than a number
+abbrev pub entries_above : Weighing → ℕ → Matrix
+entries_above w least = above w.matrix (weight_at w) least
+
 -- the number of pairs and the least of their weights, the pairs, and columns with the rows that have an entry in one of them
 -- whose weight is greater
 abbrev pub best_lines : Weighing → List Place → ℕ → List ℕ → List TextLine
 best_lines w pairs least hall =
     line (codes "bottleneck") (length pairs ∷ least ∷ [])
     ∷ map (entry_line w) pairs
-    ++ line (codes "above_rows") (counted (neighbours (above w.matrix (weight_at w) least) hall))
+    ++ line (codes "above_rows") (counted (neighbours (entries_above w least) hall))
     ∷ line (codes "above_columns") (counted hall)
     ∷ end_line
     ∷ []

@@ -10,3 +10,4 @@ pub mod ReportGrammar
 pub mod ReportRead
 pub mod Reports
 pub mod Surplus
+pub mod Texts

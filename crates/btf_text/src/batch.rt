@@ -10,6 +10,7 @@ ghost use Rattle.sp_ports.specs.Device.{Writes, seen};
 
 use crate::TextBuf;
 use crate::report::put_without_options;
+use crate::text::Text;
 use bip_graph::{Components, Decomposition};
 use sp_ports::{Failed, Sink};
 
@@ -35,10 +36,10 @@ pub fn write_file_report<K: Sink>(
         (file_report number (report_of a (decomposition_of dec.now)
         (Some (components_of components.now)) false None)) result }
 {
-    buf.start();
-    buf.put_line(out, b"file", &[number, 0]);
-    put_without_options(out, buf, dec, components);
-    buf.finish(out)
+    let mut text = Text::start(out, buf);
+    text.put_line(b"file", &[number, 0]);
+    put_without_options(&mut text, dec, components);
+    text.finish()
 }
 
 /// Writes the line of a file that is not good, by its number and its status, and the line that
@@ -57,10 +58,10 @@ pub fn write_file_fault<K: Sink>(
     ensures { Writes (seen K.taken K.faults out.old out.new)
         (behind_file_line number status why.now) result }
 {
-    buf.start();
-    buf.put_line(out, b"file", &[number, status]);
-    buf.put_piece(out, why);
-    buf.finish(out)
+    let mut text = Text::start(out, buf);
+    text.put_line(b"file", &[number, status]);
+    text.put_piece(why);
+    text.finish()
 }
 
 /// Writes the last line: how many files there were.
@@ -70,7 +71,7 @@ pub fn write_file_fault<K: Sink>(
 pub fn write_files_end<K: Sink>(out: &mut K, buf: &mut TextBuf, files: u64) -> Result<(), Failed>
     ensures { Writes (seen K.taken K.faults out.old out.new) (files_end files) result }
 {
-    buf.start();
-    buf.put_line(out, b"end", &[files]);
-    buf.finish(out)
+    let mut text = Text::start(out, buf);
+    text.put_line(b"end", &[files]);
+    text.finish()
 }

@@ -2,6 +2,8 @@
 
 ghost use Rattle.std.specs.Prelude.{◌≡◌, OnOk, OnErr, true, ◌∷◌, ◌++◌, ◌+◌, ◌≤◌, [], false, length, map, decimal, IfOk};
 ghost use Rattle.bip_graph.specs.Texts.{counted, line, spaced};
+ghost use Rattle.std.specs.Fmt.{signed_decimal};
+ghost use Rattle.btf_text.specs.Diagonals.{signed_line};
 ghost use Rattle.btf_text.specs.Buffered.{Appends, AppendsLines, Ends};
 ghost use Rattle.sp_ports.specs.Device.{seen};
 
@@ -112,7 +114,7 @@ impl TextBuf {
         self.hand_on(out);
     }
 
-    /// Goes on with these bytes, at most 65,536.
+    /// Appends these bytes, at most 65,536.
     pub fn put_piece<K: Sink>(&mut self, out: &mut K, piece: &[u8])
         requires { length piece.now ≤ 65536 }
         ensures { Appends (seen K.taken K.faults out.old out.new) self.old self.new piece.now }
@@ -121,7 +123,7 @@ impl TextBuf {
         self.add(piece);
     }
 
-    /// Goes on with a space and a number.
+    /// Appends a space and a number.
     pub fn put_number<K: Sink>(&mut self, out: &mut K, number: u64)
         ensures { Appends (seen K.taken K.faults out.old out.new) self.old self.new
             (32 ∷ decimal number) }
@@ -133,7 +135,7 @@ impl TextBuf {
         self.add(text);
     }
 
-    /// Goes on with a line: a word of at most 65,536 bytes, and a space and a number each.
+    /// Appends a line: a word of at most 65,536 bytes, and a space and a number each.
     pub fn put_line<K: Sink>(&mut self, out: &mut K, word: &[u8], numbers: &[u64])
         requires { length word.now ≤ 65536 }
         ensures { AppendsLines (seen K.taken K.faults out.old out.new) self.old self.new
@@ -146,7 +148,7 @@ impl TextBuf {
         self.put_piece(out, b"\n");
     }
 
-    /// Goes on with a list line: a word of at most 65,536 bytes, and a space and a number each,
+    /// Appends a list line: a word of at most 65,536 bytes, and a space and a number each,
     /// which count from 1.
     pub fn put_list<K: Sink, N: Id>(&mut self, out: &mut K, word: &[u8], list: &[N])
         requires { length word.now ≤ 65536 }
@@ -158,7 +160,7 @@ impl TextBuf {
         self.put_piece(out, b"\n");
     }
 
-    /// Goes on with a space and a number each, which count from 1.
+    /// Appends a space and a number each, which count from 1.
     pub(crate) fn put_ids<K: Sink, N: Id>(&mut self, out: &mut K, list: &[N])
         ensures { Appends (seen K.taken K.faults out.old out.new) self.old self.new
             (spaced (counted (map N.number list.now))) }
@@ -166,6 +168,31 @@ impl TextBuf {
         for id in list {
             self.put_number(out, u64::from(id.number()) + 1);
         }
+    }
+
+    /// Appends a space and a number that may be below zero.
+    fn put_signed<K: Sink>(&mut self, out: &mut K, number: i128)
+        ensures { Appends (seen K.taken K.faults out.old out.new) self.old self.new
+            (32 ∷ signed_decimal number) }
+    {
+        let mut digits = Buffer::new();
+        let text = digits.format(number).as_bytes();
+        self.put_piece(out, b" ");
+        self.put_piece(out, text);
+    }
+
+    /// Appends a line: a word of at most 65,536 bytes, and a space and a number each, which may be
+    /// below zero.
+    pub(crate) fn put_signed_line<K: Sink>(&mut self, out: &mut K, word: &[u8], numbers: &[i128])
+        requires { length word.now ≤ 65536 }
+        ensures { AppendsLines (seen K.taken K.faults out.old out.new) self.old self.new
+            (signed_line word.now numbers.now ∷ []) }
+    {
+        self.put_piece(out, word);
+        for number in numbers {
+            self.put_signed(out, *number);
+        }
+        self.put_piece(out, b"\n");
     }
 
     /// Ends the text: hands on what is kept, and tells whether a write has failed since the text

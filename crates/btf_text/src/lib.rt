@@ -5,6 +5,7 @@ mod batch;
 mod bottleneck;
 mod buffer;
 mod diagonal;
+mod hall;
 mod laws;
 mod listed_components;
 mod load;
@@ -16,6 +17,7 @@ mod replies;
 mod report;
 mod sections;
 mod stop;
+mod text;
 
 pub use batch::{write_file_fault, write_file_report, write_files_end};
 pub use bottleneck::write_bottleneck;

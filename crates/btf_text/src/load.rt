@@ -2,44 +2,42 @@
 
 ghost use Rattle.std.specs.Prelude.{◌≤◌, ◌∷◌, [], length};
 ghost use Rattle.bip_graph.specs.Texts.{matrix_line, rank_line, square_line};
-ghost use Rattle.btf_text.specs.Buffered.{AppendsLines};
-ghost use Rattle.btf_text.specs.Reports.{lengths_line, sizes_in, summary_text};
+ghost use Rattle.btf_text.specs.Reports.{lengths_line, summary_text};
+ghost use Rattle.btf_text.specs.Texts.{Puts};
 ghost use Rattle.sp_ports.specs.Device.{Writes, seen};
 
 use crate::TextBuf;
+use crate::text::Text;
 use bip_graph::{Blocks, Decomposition};
 use sp_ids::{Col, Row};
 use sp_ports::{Failed, Sink};
 
-/// Goes on with the sizes of the matrix and its rank.
-pub(crate) fn put_head<K: Sink>(out: &mut K, buf: &mut TextBuf, dec: &Decomposition)
-    ensures { AppendsLines (seen K.taken K.faults out.old out.new) buf.old buf.new
-        (matrix_line (sizes_in dec.now) ∷ rank_line dec.now.rank ∷ []) }
+/// Appends the numbers of rows, columns and entries of the matrix, and its rank.
+pub(crate) fn put_head<K: Sink>(text: &mut Text<K>, sizes: (u32, u32, u32), rank: u32)
+    ensures { Puts K.taken K.faults text.old text.new
+        (matrix_line (record { rows = sizes.0; cols = sizes.1; entries = sizes.2 })
+        ∷ rank_line rank ∷ []) }
 {
-    buf.put_line(
-        out,
-        b"matrix",
-        &[u64::from(dec.m), u64::from(dec.n), u64::from(dec.e)],
-    );
-    buf.put_line(out, b"rank", &[u64::from(dec.rank)]);
+    let (m, n, e) = sizes;
+    text.put_line(b"matrix", &[u64::from(m), u64::from(n), u64::from(e)]);
+    text.put_line(b"rank", &[u64::from(rank)]);
 }
 
-/// Goes on with the lengths of two lists.
-fn put_lengths<K: Sink>(out: &mut K, buf: &mut TextBuf, word: &[u8], rows: &[Row], cols: &[Col])
+/// Appends the lengths of two lists.
+fn put_lengths<K: Sink>(text: &mut Text<K>, word: &[u8], rows: &[Row], cols: &[Col])
     requires { length word.now ≤ 65536 }
-    ensures { AppendsLines (seen K.taken K.faults out.old out.new) buf.old buf.new
+    ensures { Puts K.taken K.faults text.old text.new
         (lengths_line word.now rows.now cols.now ∷ []) }
 {
-    buf.put_line(out, word, &[rows.len() as u64, cols.len() as u64]);
+    text.put_line(word, &[rows.len() as u64, cols.len() as u64]);
 }
 
-/// Goes on with the number of rows in blocks, and the number of blocks.
-pub(crate) fn put_square<K: Sink>(out: &mut K, buf: &mut TextBuf, blocks: &Blocks)
-    ensures { AppendsLines (seen K.taken K.faults out.old out.new) buf.old buf.new
-        (square_line blocks.now ∷ []) }
+/// Appends the number of rows in blocks, and the number of blocks.
+pub(crate) fn put_square<K: Sink>(text: &mut Text<K>, blocks: &Blocks)
+    ensures { Puts K.taken K.faults text.old text.new (square_line blocks.now ∷ []) }
 {
     let rows = blocks.all_rows();
-    buf.put_line(out, b"square", &[rows.len() as u64, blocks.len() as u64]);
+    text.put_line(b"square", &[rows.len() as u64, blocks.len() as u64]);
 }
 
 /// Writes the summary of a decomposition, five lines: the sizes of the matrix, its rank, and the
@@ -54,23 +52,21 @@ pub fn write_load<K: Sink>(
 ) -> Result<(), Failed>
     ensures { Writes (seen K.taken K.faults out.old out.new) (summary_text dec.now) result }
 {
-    buf.start();
-    put_head(out, buf, dec);
+    let mut text = Text::start(out, buf);
+    put_head(&mut text, (dec.m, dec.n, dec.e), dec.rank);
     let parts = &dec.parts;
     put_lengths(
-        out,
-        buf,
+        &mut text,
         b"horizontal",
         parts.hr.as_slice(),
         parts.hc.as_slice(),
     );
-    put_square(out, buf, &dec.blocks);
+    put_square(&mut text, &dec.blocks);
     put_lengths(
-        out,
-        buf,
+        &mut text,
         b"vertical",
         parts.vr.as_slice(),
         parts.vc.as_slice(),
     );
-    buf.finish(out)
+    text.finish()
 }

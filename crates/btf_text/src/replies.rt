@@ -1,11 +1,13 @@
 //! The text of the replies in a session of edits.
 
-ghost use Rattle.btf_text.specs.Buffered.{AppendsLines};
 ghost use Rattle.btf_text.specs.Replies.{replies_text, reply_lines};
+ghost use Rattle.std.specs.List.{flat_map};
+ghost use Rattle.btf_text.specs.Texts.{Puts};
 ghost use Rattle.sp_ports.specs.Device.{Writes, seen};
 
 use crate::TextBuf;
 use crate::report::put_without_options;
+use crate::text::Text;
 use bip_graph::{Components, Decomposition};
 use sp_ports::{Failed, Sink};
 
@@ -19,17 +21,25 @@ pub enum Reply {
     Report(Box<(Decomposition, Components)>),
 }
 
-/// Goes on with the lines of a reply.
-fn put_reply<K: Sink>(out: &mut K, buf: &mut TextBuf, reply: &Reply)
-    ensures { AppendsLines (seen K.taken K.faults out.old out.new) buf.old buf.new
-        (reply_lines reply.now) }
+/// Appends the lines of a reply.
+fn put_reply<K: Sink>(text: &mut Text<K>, reply: &Reply)
+    ensures { Puts K.taken K.faults text.old text.new (reply_lines reply.now) }
 {
     match reply {
-        Reply::Rank(rank) => buf.put_line(out, b"rank", &[u64::from(*rank)]),
+        Reply::Rank(rank) => text.put_line(b"rank", &[u64::from(*rank)]),
         Reply::Report(report) => {
             let (decomposition, components) = &**report;
-            put_without_options(out, buf, decomposition, components);
+            put_without_options(text, decomposition, components);
         }
+    }
+}
+
+/// Appends the lines of replies, one reply after the other.
+fn put_replies<K: Sink>(text: &mut Text<K>, replies: &[Reply])
+    ensures { Puts K.taken K.faults text.old text.new (flat_map reply_lines replies.now) }
+{
+    for reply in replies {
+        put_reply(text, reply);
     }
 }
 
@@ -45,9 +55,7 @@ pub fn write_replies<K: Sink>(
 ) -> Result<(), Failed>
     ensures { Writes (seen K.taken K.faults out.old out.new) (replies_text replies.now) result }
 {
-    buf.start();
-    for reply in replies {
-        put_reply(out, buf, reply);
-    }
-    buf.finish(out)
+    let mut text = Text::start(out, buf);
+    put_replies(&mut text, replies);
+    text.finish()
 }

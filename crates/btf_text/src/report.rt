@@ -6,131 +6,117 @@ ghost use Rattle.bip_defs.specs.Matrix.{Matrix};
 ghost use Rattle.bip_graph.specs.Answers.{orders_of, report_of, where_asked};
 ghost use Rattle.bip_graph.specs.Decompositions.{Decomposes, components_of, decomposition_of};
 ghost use Rattle.bip_graph.specs.Texts.{block_lines, component_lines, counted, horizontal_components, line, lists, numbered_components, order_lines, report_lines, report_text, version_line, vertical_components};
-ghost use Rattle.btf_text.specs.Buffered.{AppendsLines};
 ghost use Rattle.btf_text.specs.Reports.{components_in, part_lines, reported};
+ghost use Rattle.btf_text.specs.Texts.{Puts};
 ghost use Rattle.sp_ports.specs.Device.{Writes, seen};
 
 use crate::TextBuf;
 use crate::load::{put_head, put_square};
 use crate::pairs::put_pairs;
 use crate::rank::put_part;
+use crate::text::Text;
 use bip_graph::{Blocks, Components, Decomposition, Matching};
 use sp_ids::{Col, Id, Row};
 use sp_ports::{Failed, Sink};
 
-/// Goes on with a block: its number and size, and its lists.
-fn put_block<K: Sink>(out: &mut K, buf: &mut TextBuf, number: u64, rows: &[Row], cols: &[Col])
-    ensures { AppendsLines (seen K.taken K.faults out.old out.new) buf.old buf.new
+/// Appends a block: its number and size, and its lists.
+fn put_block<K: Sink>(text: &mut Text<K>, number: u64, rows: &[Row], cols: &[Col])
+    ensures { Puts K.taken K.faults text.old text.new
         (line (codes "block") (number ∷ length rows.now ∷ []) ∷ lists rows.now cols.now) }
 {
-    buf.put_line(out, b"block", &[number, rows.len() as u64]);
-    buf.put_list(out, b"rows", rows);
-    buf.put_list(out, b"columns", cols);
+    text.put_line(b"block", &[number, rows.len() as u64]);
+    text.put_list(b"rows", rows);
+    text.put_list(b"columns", cols);
 }
 
-/// Goes on with the blocks in their order, numbered from 1.
-pub(crate) fn put_blocks<K: Sink>(out: &mut K, buf: &mut TextBuf, blocks: &Blocks)
-    ensures { AppendsLines (seen K.taken K.faults out.old out.new) buf.old buf.new
-        (block_lines 1 blocks.now) }
+/// Appends the blocks in their order, numbered from 1.
+pub(crate) fn put_blocks<K: Sink>(text: &mut Text<K>, blocks: &Blocks)
+    ensures { Puts K.taken K.faults text.old text.new (block_lines 1 blocks.now) }
 {
     for i in 0..blocks.len() {
-        put_block(out, buf, i as u64 + 1, blocks.rows(i), blocks.cols(i));
+        put_block(text, i as u64 + 1, blocks.rows(i), blocks.cols(i));
     }
 }
 
-/// Goes on with a component: its number, the lengths of its lists, and the lists.
-fn put_component<K: Sink>(out: &mut K, buf: &mut TextBuf, number: u64, rows: &[Row], cols: &[Col])
-    ensures { AppendsLines (seen K.taken K.faults out.old out.new) buf.old buf.new
+/// Appends a component: its number, the lengths of its lists, and the lists.
+fn put_component<K: Sink>(text: &mut Text<K>, number: u64, rows: &[Row], cols: &[Col])
+    ensures { Puts K.taken K.faults text.old text.new
         (line (codes "component") (number ∷ length rows.now ∷ length cols.now ∷ [])
         ∷ lists rows.now cols.now) }
 {
     let (m, n) = (rows.len() as u64, cols.len() as u64);
-    buf.put_line(out, b"component", &[number, m, n]);
-    buf.put_list(out, b"rows", rows);
-    buf.put_list(out, b"columns", cols);
+    text.put_line(b"component", &[number, m, n]);
+    text.put_list(b"rows", rows);
+    text.put_list(b"columns", cols);
 }
 
-/// Goes on with components in their order, numbered from 1.
-fn put_numbered<K: Sink>(out: &mut K, buf: &mut TextBuf, components: &Blocks)
-    ensures { AppendsLines (seen K.taken K.faults out.old out.new) buf.old buf.new
-        (component_lines 1 components.now) }
+/// Appends components in their order, numbered from 1.
+fn put_numbered<K: Sink>(text: &mut Text<K>, components: &Blocks)
+    ensures { Puts K.taken K.faults text.old text.new (component_lines 1 components.now) }
 {
     for i in 0..components.len() {
-        put_component(
-            out,
-            buf,
-            i as u64 + 1,
-            components.rows(i),
-            components.cols(i),
-        );
+        put_component(text, i as u64 + 1, components.rows(i), components.cols(i));
     }
 }
 
-/// Goes on with the number of components of a part, and the components.
-fn put_counted<K: Sink>(out: &mut K, buf: &mut TextBuf, word: &[u8], components: &Blocks)
+/// Appends the number of components of a part, and the components.
+fn put_counted<K: Sink>(text: &mut Text<K>, word: &[u8], components: &Blocks)
     requires { length word.now ≤ 65536 }
-    ensures { AppendsLines (seen K.taken K.faults out.old out.new) buf.old buf.new
+    ensures { Puts K.taken K.faults text.old text.new
         (numbered_components word.now components.now) }
 {
-    buf.put_line(out, word, &[components.len() as u64]);
-    put_numbered(out, buf, components);
+    text.put_line(word, &[components.len() as u64]);
+    put_numbered(text, components);
 }
 
-/// Goes on with the horizontal components, where there are components.
-fn put_horizontal<K: Sink>(out: &mut K, buf: &mut TextBuf, components: Option<&Components>)
-    ensures { AppendsLines (seen K.taken K.faults out.old out.new) buf.old buf.new
+/// Appends the horizontal components, where there are components.
+fn put_horizontal<K: Sink>(text: &mut Text<K>, components: Option<&Components>)
+    ensures { Puts K.taken K.faults text.old text.new
         (horizontal_components (components_in (option_copied components.entry))) }
 {
     if let Some(both) = components {
-        put_counted(out, buf, b"horizontal_components", &both.horizontal);
+        put_counted(text, b"horizontal_components", &both.horizontal);
     }
 }
 
-/// Goes on with the vertical components, where there are components.
-fn put_vertical<K: Sink>(out: &mut K, buf: &mut TextBuf, components: Option<&Components>)
-    ensures { AppendsLines (seen K.taken K.faults out.old out.new) buf.old buf.new
+/// Appends the vertical components, where there are components.
+fn put_vertical<K: Sink>(text: &mut Text<K>, components: Option<&Components>)
+    ensures { Puts K.taken K.faults text.old text.new
         (vertical_components (components_in (option_copied components.entry))) }
 {
     if let Some(both) = components {
-        put_counted(out, buf, b"vertical_components", &both.vertical);
+        put_counted(text, b"vertical_components", &both.vertical);
     }
 }
 
-/// Goes on with the version: 2 where there are components, else 1.
-fn put_version<K: Sink>(out: &mut K, buf: &mut TextBuf, components: Option<&Components>)
-    ensures { AppendsLines (seen K.taken K.faults out.old out.new) buf.old buf.new
+/// Appends the version: 2 where there are components, else 1.
+fn put_version<K: Sink>(text: &mut Text<K>, components: Option<&Components>)
+    ensures { Puts K.taken K.faults text.old text.new
         (version_line (components_in (option_copied components.entry)) ∷ []) }
 {
     match components {
-        Some(_) => buf.put_line(out, b"btf", &[2]),
-        None => buf.put_line(out, b"btf", &[1]),
+        Some(_) => text.put_line(b"btf", &[2]),
+        None => text.put_line(b"btf", &[1]),
     }
 }
 
-/// Goes on with a list line over three lists.
-fn put_order<K: Sink, N: Id>(
-    out: &mut K,
-    buf: &mut TextBuf,
-    word: &[u8],
-    first: &[N],
-    middle: &[N],
-    last: &[N],
-)
+/// Appends a list line over three lists.
+fn put_order<K: Sink, N: Id>(text: &mut Text<K>, word: &[u8], first: &[N], middle: &[N], last: &[N])
     requires { length word.now ≤ 65536 }
-    ensures { AppendsLines (seen K.taken K.faults out.old out.new) buf.old buf.new
+    ensures { Puts K.taken K.faults text.old text.new
         (line word.now (counted (map N.number (first.now ++ middle.now ++ last.now))) ∷ []) }
 {
-    buf.put_piece(out, word);
-    buf.put_ids(out, first);
-    buf.put_ids(out, middle);
-    buf.put_ids(out, last);
-    buf.put_piece(out, b"\n");
+    text.put_piece(word);
+    text.put_ids(first);
+    text.put_ids(middle);
+    text.put_ids(last);
+    text.put_piece(b"\n");
 }
 
-/// Goes on with the rows and the columns in the order of the block triangular form, where they are
+/// Appends the rows and the columns in the order of the block triangular form, where they are
 /// asked for.
-pub(crate) fn put_orders<K: Sink>(out: &mut K, buf: &mut TextBuf, dec: &Decomposition, order: bool)
-    ensures { AppendsLines (seen K.taken K.faults out.old out.new) buf.old buf.new
+pub(crate) fn put_orders<K: Sink>(text: &mut Text<K>, dec: &Decomposition, order: bool)
+    ensures { Puts K.taken K.faults text.old text.new
         (order_lines (where_asked order (orders_of (decomposition_of dec.now)))) }
 {
     if !order {
@@ -138,16 +124,14 @@ pub(crate) fn put_orders<K: Sink>(out: &mut K, buf: &mut TextBuf, dec: &Decompos
     }
     let (parts, blocks) = (&dec.parts, &dec.blocks);
     put_order(
-        out,
-        buf,
+        text,
         b"row_order",
         parts.hr.as_slice(),
         blocks.all_rows(),
         parts.vr.as_slice(),
     );
     put_order(
-        out,
-        buf,
+        text,
         b"column_order",
         parts.hc.as_slice(),
         blocks.all_cols(),
@@ -155,51 +139,38 @@ pub(crate) fn put_orders<K: Sink>(out: &mut K, buf: &mut TextBuf, dec: &Decompos
     );
 }
 
-/// Goes on with the lists of the parts, the components and the blocks.
-fn put_parts<K: Sink>(
-    out: &mut K,
-    buf: &mut TextBuf,
-    dec: &Decomposition,
-    components: Option<&Components>,
-)
-    ensures { AppendsLines (seen K.taken K.faults out.old out.new) buf.old buf.new
+/// Appends the lists of the parts, the components and the blocks.
+fn put_parts<K: Sink>(text: &mut Text<K>, dec: &Decomposition, components: Option<&Components>)
+    ensures { Puts K.taken K.faults text.old text.new
         (part_lines dec.now (components_in (option_copied components.entry))) }
 {
     let parts = &dec.parts;
     put_part(
-        out,
-        buf,
+        text,
         b"horizontal",
         parts.hr.as_slice(),
         parts.hc.as_slice(),
     );
-    put_horizontal(out, buf, components);
-    put_square(out, buf, &dec.blocks);
-    put_blocks(out, buf, &dec.blocks);
-    put_part(
-        out,
-        buf,
-        b"vertical",
-        parts.vr.as_slice(),
-        parts.vc.as_slice(),
-    );
-    put_vertical(out, buf, components);
+    put_horizontal(text, components);
+    put_square(text, &dec.blocks);
+    put_blocks(text, &dec.blocks);
+    put_part(text, b"vertical", parts.vr.as_slice(), parts.vc.as_slice());
+    put_vertical(text, components);
 }
 
-/// Goes on with a report of version 2 without orders and pairs.
+/// Appends a report of version 2 without orders and pairs.
 pub(crate) fn put_without_options<K: Sink>(
-    out: &mut K,
-    buf: &mut TextBuf,
+    text: &mut Text<K>,
     dec: &Decomposition,
     components: &Components,
 )
-    ensures { AppendsLines (seen K.taken K.faults out.old out.new) buf.old buf.new
+    ensures { Puts K.taken K.faults text.old text.new
         (report_lines (reported dec.now (Some (components_of components.now)) false None)) }
 {
-    put_version(out, buf, Some(components));
-    put_head(out, buf, dec);
-    put_parts(out, buf, dec, Some(components));
-    buf.put_line(out, b"end", &[]);
+    put_version(text, Some(components));
+    put_head(text, (dec.m, dec.n, dec.e), dec.rank);
+    put_parts(text, dec, Some(components));
+    text.put_line(b"end", &[]);
 }
 
 /// Writes the report of a decomposition: the sizes of the matrix, its rank, and the lists of its
@@ -229,12 +200,12 @@ pub fn write_report<K: Sink>(
         (components_in (option_copied components.entry)) order
         (where_asked pairs matching.now.pairs))) result }
 {
-    buf.start();
-    put_version(out, buf, components);
-    put_head(out, buf, dec);
-    put_parts(out, buf, dec, components);
-    put_orders(out, buf, dec, order);
-    put_pairs(out, buf, matching, pairs);
-    buf.put_line(out, b"end", &[]);
-    buf.finish(out)
+    let mut text = Text::start(out, buf);
+    put_version(&mut text, components);
+    put_head(&mut text, (dec.m, dec.n, dec.e), dec.rank);
+    put_parts(&mut text, dec, components);
+    put_orders(&mut text, dec, order);
+    put_pairs(&mut text, matching, pairs);
+    text.put_line(b"end", &[]);
+    text.finish()
 }

@@ -1,5 +1,6 @@
-use Rattle.btf_text.proofs.BufferLaws.{begun}
+use Rattle.std.proofs.Common.{rules}
+use Rattle.btf_text.proofs.Puts.{bytes_of, bytes_then, written_bytes}
 use Rattle.btf_text.proofs.batch.write_file_fault.Goals as goal
 
 pub returns : goal.returns
-returns g c = c.finish.ensures _ _ _ (c.put_piece.ensures _ _ _ (begun c.start.ensures c.put_line.ensures))
+returns g c = written_bytes _ c.start-text.ensures (bytes_then (bytes_of c.put_line.ensures) c.put_piece.ensures) c.finish.ensures (search rules)

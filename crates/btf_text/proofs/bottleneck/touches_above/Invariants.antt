@@ -5,4 +5,4 @@ use Rattle.btf_text.proofs.NeighbourRows.{is_heavy}
 use Rattle.btf_text.proofs.bottleneck.touches_above.Given as goal
 
 abbrev pub invariant-loop-col : goal.invariant-loop-col
-invariant-loop-col l = list_any (is_heavy (weight_at l.weights) l.least l.hall l.row) (take l.col-index l.cols) ≡ false
+invariant-loop-col l = list_any (is_heavy (weight_at l.above.weights.now) l.above.least l.hall l.row) (take l.col-index l.cols) ≡ false

@@ -1,5 +1,6 @@
-use Rattle.btf_text.proofs.BufferLaws.{begun}
+use Rattle.std.proofs.Common.{rules}
+use Rattle.btf_text.proofs.Puts.{written}
 use Rattle.btf_text.proofs.bottleneck.write_bottleneck.Goals as goal
 
 pub returns : goal.returns
-returns g c = c.finish.ensures _ _ _ (begun c.start.ensures c.put_answer.ensures)
+returns g c = written _ c.start-text.ensures c.put_answer.ensures c.finish.ensures (search rules)

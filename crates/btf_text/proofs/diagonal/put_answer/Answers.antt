@@ -4,8 +4,8 @@ use Rattle.bip_defs.specs.Lists.{Among}
 use Rattle.bip_defs.specs.Matrix.{Place}
 use Rattle.bip_graph.specs.declared.answers.Heaviest.TheVariants.{Diagonal}
 use Rattle.btf_text.specs.Diagonals.{PairsAreEntries, diagonal_lines}
-use Rattle.btf_text.proofs.Parts.{lines_as}
 use Rattle.btf_text.proofs.Weighed.{same_weighed}
+use Rattle.btf_text.proofs.Puts.{puts_as}
 use Rattle.btf_text.proofs.diagonal.put_answer.Goals as goal
 
 pub put_weighed-requires : goal.put_weighed-requires
@@ -17,4 +17,4 @@ put_weighed-requires g c r col on =
 pub returns-in-Diagonal : goal.returns-in-Diagonal
 returns-in-Diagonal g c =
     let fits : SFits w128 c.in-Diagonal.sum = search rules in
-    lines_as (same_weighed c.args.weights.now c.as_slice-in-Diagonal.ensures.value c.as_slice-u.ensures.value c.as_slice-v.ensures.value (to_z-of_z fits) ∙ sym (ap (diagonal_lines c.args.weights.now) c.in-Diagonal.is)) c.put_weighed.ensures
+    puts_as (same_weighed c.args.weights.now c.as_slice-in-Diagonal.ensures.value c.as_slice-u.ensures.value c.as_slice-v.ensures.value (to_z-of_z fits) ∙ sym (ap (diagonal_lines c.args.weights.now) c.in-Diagonal.is)) c.put_weighed.ensures

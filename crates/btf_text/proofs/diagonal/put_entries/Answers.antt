@@ -4,13 +4,12 @@ use Rattle.bip_defs.specs.Lists.{Among}
 use Rattle.bip_defs.specs.Matrix.{Place}
 use Rattle.bip_defs.proofs.Sets.{among_at}
 use Rattle.btf_text.specs.Diagonals.{entry_line}
-use Rattle.btf_text.proofs.Orders.{lines_none}
-use Rattle.btf_text.proofs.Parts.{lines_as, lines_then}
 use Rattle.btf_text.proofs.Weighed.{entries_go_on}
+use Rattle.btf_text.proofs.Puts.{puts_as, puts_none, puts_then}
 use Rattle.btf_text.proofs.diagonal.put_entries.Goals as goal
 
 pub loop-pair-init : goal.loop-pair-init
-loop-pair-init g c = lines_none _ _ _
+loop-pair-init g c = puts_none _
 
 pub put_entry-requires : goal.put_entry-requires
 put_entry-requires g c =
@@ -21,8 +20,8 @@ pub loop-pair-preserved : goal.loop-pair-preserved
 loop-pair-preserved g c =
     let w = c.args.weights.now in
     let pairs = c.args.pairs.now in
-    lines_as (ap (λ (p : Place). map (entry_line w) (take c.loop-pair.pair-index pairs) ++ entry_line w p ∷ []) c.pair-item.is ∙ entries_go_on w pairs c.loop-pair.pair-index c.pair-item.result c.loop-pair-test.true)
-    (lines_then c.loop-pair.invariant c.put_entry.ensures)
+    puts_as (ap (λ (p : Place). map (entry_line w) (take c.loop-pair.pair-index pairs) ++ entry_line w p ∷ []) c.pair-item.is ∙ entries_go_on w pairs c.loop-pair.pair-index c.pair-item.result c.loop-pair-test.true)
+    (puts_then c.loop-pair.invariant c.put_entry.ensures)
 
 pub returns : goal.returns
-returns g c = lines_as (ap (map (entry_line c.args.weights.now)) (take_all _ _ c.loop-pair-test.false)) c.loop-pair.invariant
+returns g c = puts_as (ap (map (entry_line c.args.weights.now)) (take_all _ _ c.loop-pair-test.false)) c.loop-pair.invariant

@@ -6,7 +6,7 @@ use Rattle.btf_text.specs.Diagonals.{signed_line, signed_spaced}
 use Rattle.btf_text.proofs.BufferLaws.{appends_as, appends_then}
 use Rattle.btf_text.proofs.Lines.{line_alone}
 use Rattle.btf_text.proofs.Weighed.{signed_ends, signed_go_on}
-use Rattle.btf_text.proofs.diagonal.put_signed_line.Goals as goal
+use Rattle.btf_text.proofs.buffer.TextBuf.put_signed_line.Goals as goal
 
 pub loop-number-init : goal.loop-number-init
 loop-number-init g c = appends_as _ _ (sym (append-nil _)) c.put_piece.ensures

@@ -1,7 +1,7 @@
 use Rattle.std.proofs.Common.{[], ◌∷◌, ◌∙◌, ap, List, ℕ, to_z-of_z}
 use Rattle.std.specs.Fmt.{signed_decimal}
 use Rattle.btf_text.proofs.BufferLaws.{appends_as, appends_then}
-use Rattle.btf_text.proofs.diagonal.put_signed.Goals as goal
+use Rattle.btf_text.proofs.buffer.TextBuf.put_signed.Goals as goal
 
 pub returns : goal.returns
 returns g c =

@@ -3,7 +3,7 @@ use Rattle.std.proofs.lemmas.List.{get_or_default}
 use Rattle.bip_defs.specs.Lists.{Among}
 use Rattle.bip_defs.proofs.Sets.{among_at}
 use Rattle.btf_text.proofs.Halves.{searched_half, searched_one, searched_places, spread}
-use Rattle.btf_text.proofs.diagonal.has_by_halves.Goals as goal
+use Rattle.btf_text.proofs.hall.has_by_halves.Goals as goal
 
 pub overflow_sub-missing-2 : goal.overflow_sub-missing-2
 overflow_sub-missing-2 c =
