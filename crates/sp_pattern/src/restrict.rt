@@ -29,12 +29,12 @@ pub trait Choice {
 
 /// The entries whose weight is greater than `least`.
 #[derive(Clone, Copy)]
-pub struct Heavier<'w> {
+pub struct AboveWeight<'w> {
     pub weights: &'w [u64],
     pub least: u64,
 }
 
-impl Choice for Heavier<'_> {
+impl Choice for AboveWeight<'_> {
     ghost count = { λ s. length s.weights.now };
 
     ghost takes = { λ s at. nat_lt s.least (slice_index s.weights.now at) };
@@ -103,7 +103,7 @@ impl Pattern {
     {
         self.restrict(
             alloc,
-            &Heavier {
+            &AboveWeight {
                 weights: weights.weights(),
                 least,
             },
