@@ -4,7 +4,7 @@ use Rattle.std.proofs.lemmas.List.{take_more}
 use Rattle.bip_defs.specs.Bottleneck.{IsLeastWeight}
 use Rattle.bip_defs.specs.Lists.{Among}
 use Rattle.bip_defs.specs.Matching.{IsMatching}
-use Rattle.bip_defs.specs.Matrix.{AreEntries, IsEntry, Matrix, Place}
+use Rattle.bip_defs.specs.Matrix.{AreEntries, Matrix, Place}
 use Rattle.bip_defs.proofs.Sets.{among_last, among_left, among_right, among_take}
 use Rattle.bottleneck.specs.Heavier.{WeighAtLeast}
 
@@ -37,8 +37,8 @@ least_kept weight m p least new l e le = record {
 }
 
 -- the pairs of a matching are entries, as they are listed
-pub are_entries : (a b : Matrix) (m n : List Place) → b ≡ a → IsMatching a m → n ≡ m → AreEntries b n
-are_entries a b m n same k listed r c h = subst (λ (z : Matrix). IsEntry z r c) (sym same) (k.entries r c (subst (λ (z : List Place). Among {X = Place} (r, c) z) listed h))
+pub are_entries : (a : Matrix) (m n : List Place) → IsMatching a m → n ≡ m → AreEntries a n
+are_entries a m n k listed r c h = k.entries r c (subst (λ (z : List Place). Among {X = Place} (r, c) z) listed h)
 
 -- The loop over the pairs.
 

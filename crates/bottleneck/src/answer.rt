@@ -8,7 +8,7 @@ ghost use Rattle.bip_defs.specs.Matrix.{cols};
 ghost use Rattle.bip_graph.specs.Matching.{IsMatchingOf, IsMaximumOf};
 ghost use Rattle.bottleneck.specs.Answers.{IsBottleneck};
 ghost use Rattle.bottleneck.specs.Heavier.{IsHeavier, IsShort, WeighAtLeast};
-ghost use Rattle.sp_pattern.specs.Weights.{Weighing, weight_at};
+ghost use Rattle.sp_pattern.specs.Weights.{weight_at};
 
 use crate::bound::{bound, bounded_matching};
 use crate::heavier::{Heavier, heavier_matching};
@@ -18,7 +18,7 @@ use bip_graph::{Bottleneck, Matching};
 use breadth_first_match::complete;
 use hall_witness::hall_set;
 use sp_ids::{Col, OutOfMemory, Row};
-use sp_pattern::{Pattern, Weights};
+use sp_pattern::{Neighbours, Pattern, Weights};
 use std::alloc::Global;
 
 /// A perfect matching whose least weight is greatest, that weight, and columns that show that no
@@ -37,31 +37,39 @@ pub fn best(alloc: Global, pattern: &Pattern, weights: &Weights) -> Result<Bottl
     if pattern.rows() != pattern.cols() {
         return Ok(Bottleneck::Rectangular);
     }
-    let bound = bound(alloc, pattern, weights)?;
-    let heavy = bounded_matching(alloc, pattern, weights, bound)?;
-    if heavy.size() == pattern.cols() {
-        return shown(alloc, pattern, weights, heavy, bound);
+    best_of_square(alloc, weights)
+}
+
+// The same of a square matrix.
+fn best_of_square(alloc: Global, weights: &Weights) -> Result<Bottleneck, OutOfMemory>
+    requires { weights.now.matrix.rows ≡ cols weights.now.matrix }
+    ensures { IfOk result (IsBottleneck weights.now) }
+{
+    let bound = bound(alloc, weights)?;
+    let heavy = bounded_matching(alloc, weights, bound)?;
+    if heavy.size() == weights.cols() {
+        return shown(alloc, weights, heavy, bound);
     }
-    let matching = complete(alloc, pattern, heavy)?;
-    if matching.size() < pattern.cols() {
-        return singular(alloc, pattern, &matching);
+    let matching = complete(alloc, weights.pattern(), heavy)?;
+    if matching.size() < weights.cols() {
+        return singular(alloc, weights, &matching);
     }
-    let (matching, short) = raised(alloc, pattern, weights, matching, bound)?;
-    answered(alloc, pattern, weights, matching, short)
+    let (matching, short) = raised(alloc, weights, matching, bound)?;
+    answered(alloc, weights, matching, short)
 }
 
 // The answer where the matrix has no perfect matching.
 fn singular(
     alloc: Global,
-    pattern: &Pattern,
+    weights: &Weights,
     matching: &Matching,
 ) -> Result<Bottleneck, OutOfMemory>
-    requires maximum { IsMaximumOf pattern.now matching.now }
-    requires square { pattern.now.rows ≡ cols pattern.now }
-    requires short { length matching.now.pairs < cols pattern.now }
-    ensures { IfOk result (λ b. (w : Weighing) → w.matrix ≡ pattern.now → IsBottleneck w b) }
+    requires maximum { IsMaximumOf weights.now.matrix matching.now }
+    requires square { weights.now.matrix.rows ≡ cols weights.now.matrix }
+    requires short { length matching.now.pairs < cols weights.now.matrix }
+    ensures { IfOk result (IsBottleneck weights.now) }
 {
-    let hall = hall_set(alloc, pattern, matching)?;
+    let hall = hall_set(alloc, weights.pattern(), matching)?;
     Ok(Bottleneck::Singular {
         rank: matching.size(),
         hall,
@@ -72,16 +80,14 @@ fn singular(
 // the matching's least weight, they show that it is best.
 fn answered(
     alloc: Global,
-    pattern: &Pattern,
     weights: &Weights,
     matching: Matching,
     short: Option<Heavier>,
 ) -> Result<Bottleneck, OutOfMemory>
-    requires of { weights.now.matrix ≡ pattern.now }
-    requires square { pattern.now.rows ≡ cols pattern.now }
-    requires matching { IsMatchingOf pattern.now matching }
-    requires full { length matching.pairs ≡ cols pattern.now }
-    requires short { IfSome short (IsShort pattern.now (weight_at weights.now)) }
+    requires square { weights.now.matrix.rows ≡ cols weights.now.matrix }
+    requires matching { IsMatchingOf weights.now.matrix matching }
+    requires full { length matching.pairs ≡ cols weights.now.matrix }
+    requires short { IfSome short (IsShort weights.now) }
     ensures { IfOk result (IsBottleneck weights.now) }
 {
     if let Some(heavier) = short {
@@ -89,37 +95,35 @@ fn answered(
         let least = least_of(weights, pairs.as_slice(), 0);
         if heavier.above == least {
             matching.is_matching();
-            return with_hall_set(alloc, pattern, weights, &heavier, pairs);
+            return with_hall_set(alloc, weights, &heavier, pairs);
         }
     }
-    shown(alloc, pattern, weights, matching, 0)
+    shown(alloc, weights, matching, 0)
 }
 
 // The answer from a perfect matching, each pair of which weighs at least `bound`: it is shown to be
 // best, or one of greater least weight is found and shown to be.
 fn shown(
     alloc: Global,
-    pattern: &Pattern,
     weights: &Weights,
     matching: Matching,
     bound: u64,
 ) -> Result<Bottleneck, OutOfMemory>
-    requires of { weights.now.matrix ≡ pattern.now }
-    requires square { pattern.now.rows ≡ cols pattern.now }
-    requires matching { IsMatchingOf pattern.now matching }
-    requires full { length matching.pairs ≡ cols pattern.now }
+    requires square { weights.now.matrix.rows ≡ cols weights.now.matrix }
+    requires matching { IsMatchingOf weights.now.matrix matching }
+    requires full { length matching.pairs ≡ cols weights.now.matrix }
     requires bound { WeighAtLeast (weight_at weights.now) matching.pairs bound }
     ensures { IfOk result (IsBottleneck weights.now) }
 {
-    let cols = pattern.cols();
+    let cols = weights.cols();
     let mut matching = matching;
     let mut pairs = matching.pairs(alloc)?;
     let mut least = least_of(weights, pairs.as_slice(), bound);
     loop {
-        let heavier = heavier_matching(alloc, pattern, weights, &matching, least)?;
+        let heavier = heavier_matching(alloc, weights, &matching, least)?;
         if cols == 0 || heavier.maximum.size() < cols {
             matching.is_matching();
-            return with_hall_set(alloc, pattern, weights, &heavier, pairs);
+            return with_hall_set(alloc, weights, &heavier, pairs);
         }
         matching = heavier.maximum;
         pairs = matching.pairs(alloc)?;
@@ -130,19 +134,17 @@ fn shown(
 // The answer of these pairs, where the entries above their least weight have no perfect matching.
 fn with_hall_set(
     alloc: Global,
-    pattern: &Pattern,
     weights: &Weights,
     heavier: &Heavier,
     pairs: Vec<(Row, Col)>,
 ) -> Result<Bottleneck, OutOfMemory>
-    requires of { weights.now.matrix ≡ pattern.now }
-    requires square { pattern.now.rows ≡ cols pattern.now }
-    requires full { IsFull pattern.now pairs.items }
+    requires square { weights.now.matrix.rows ≡ cols weights.now.matrix }
+    requires full { IsFull weights.now.matrix pairs.items }
     requires rising { IsRising (cols_of pairs.items) }
     requires least { IsLeastWeight (weight_at weights.now) pairs.items heavier.now.above }
-    requires heavier { IsHeavier pattern.now (weight_at weights.now) heavier.now }
-    requires short { (cols pattern.now ≡ 0)
-        ⊎ (length heavier.now.maximum.pairs < cols pattern.now) }
+    requires heavier { IsHeavier weights.now heavier.now }
+    requires short { (cols weights.now.matrix ≡ 0)
+        ⊎ (length heavier.now.maximum.pairs < cols weights.now.matrix) }
     ensures { IfOk result (IsBottleneck weights.now) }
 {
     let hall = hall_set(alloc, &heavier.entries, &heavier.maximum)?;

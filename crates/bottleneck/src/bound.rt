@@ -10,7 +10,7 @@ use bip_graph::Matching;
 use breadth_first_match::complete;
 use karp_sipser::start;
 use sp_ids::{Col, OutOfMemory};
-use sp_pattern::{Pattern, Weights};
+use sp_pattern::{Neighbours, Weights};
 use std::alloc::Global;
 
 /// The least of the greatest weights of the rows and of the columns, and 0 where a row or a column
@@ -18,13 +18,11 @@ use std::alloc::Global;
 /// weight. It is a threshold to begin with, so nothing is said of it.
 ///
 /// It takes 8 bytes a row. Work: one look at each entry.
-pub fn bound(alloc: Global, pattern: &Pattern, weights: &Weights) -> Result<u64, OutOfMemory>
-    requires { weights.now.matrix ≡ pattern.now }
-{
-    let mut of_rows = vec![in alloc; 0u64; pattern.rows() as usize]?;
+pub fn bound(alloc: Global, weights: &Weights) -> Result<u64, OutOfMemory> {
+    let mut of_rows = vec![in alloc; 0u64; weights.rows() as usize]?;
     let mut least = u64::MAX;
-    for col in 0..pattern.cols() {
-        let greatest = raise_rows(pattern, weights, of_rows.as_mut_slice(), Col(col));
+    for col in 0..weights.cols() {
+        let greatest = raise_rows(weights, of_rows.as_mut_slice(), Col(col));
         if greatest < least {
             least = greatest;
         }
@@ -38,13 +36,12 @@ pub fn bound(alloc: Global, pattern: &Pattern, weights: &Weights) -> Result<u64,
 }
 
 // Raises the weights of the rows to those of a column's entries. Gives the greatest of these.
-fn raise_rows(pattern: &Pattern, weights: &Weights, of_rows: &mut [u64], col: Col) -> u64
-    requires of { weights.now.matrix ≡ pattern.now }
-    requires rows { length of_rows.old ≡ pattern.now.rows }
-    requires col { col < cols pattern.now }
+fn raise_rows(weights: &Weights, of_rows: &mut [u64], col: Col) -> u64
+    requires rows { length of_rows.old ≡ weights.now.matrix.rows }
+    requires col { col < cols weights.now.matrix }
     ensures { length of_rows.new ≡ length of_rows.old }
 {
-    let rows = pattern.rows_of(col);
+    let rows = weights.rows_of(col);
     let weights = weights.weights_of(col);
     let mut greatest = 0;
     for k in 0..rows.len() {
@@ -67,18 +64,16 @@ fn raise_rows(pattern: &Pattern, weights: &Weights, of_rows: &mut [u64], col: Co
 /// matching of it takes. Work: that of both.
 pub fn bounded_matching(
     alloc: Global,
-    pattern: &Pattern,
     weights: &Weights,
     bound: u64,
 ) -> Result<Matching, OutOfMemory>
-    requires { weights.now.matrix ≡ pattern.now }
-    ensures matching { IfOk result (IsMatchingOf pattern.now) }
+    ensures matching { IfOk result (IsMatchingOf weights.now.matrix) }
     ensures bound { IfOk result (λ m. WeighAtLeast (weight_at weights.now) m.pairs bound) }
 {
     if bound == 0 {
-        return start(alloc, pattern);
+        return start(alloc, weights.pattern());
     }
-    let heavy = pattern.above(alloc, weights, bound - 1)?;
+    let heavy = weights.above(alloc, bound - 1)?;
     let started = start(alloc, &heavy)?;
     let matching = complete(alloc, &heavy, started)?;
     Ok(matching)

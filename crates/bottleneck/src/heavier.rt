@@ -26,17 +26,15 @@ pub struct Heavier {
 /// another matching that are left.
 pub fn heavier_matching(
     alloc: Global,
-    pattern: &Pattern,
     weights: &Weights,
     matching: &Matching,
     above: u64,
 ) -> Result<Heavier, OutOfMemory>
-    requires of { weights.now.matrix ≡ pattern.now }
-    requires matching { IsMatchingOf pattern.now matching.now }
-    ensures heavier { IfOk result (IsHeavier pattern.now (weight_at weights.now)) }
+    requires matching { IsMatchingOf weights.now.matrix matching.now }
+    ensures heavier { IfOk result (IsHeavier weights.now) }
     ensures above { IfOk result (λ h. h.above ≡ above) }
 {
-    let entries = pattern.above(alloc, weights, above)?;
+    let entries = weights.above(alloc, above)?;
     let left = pairs_left(alloc, &entries, matching)?;
     let maximum = complete(alloc, &entries, left)?;
     Ok(Heavier {

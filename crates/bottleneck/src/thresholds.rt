@@ -10,7 +10,7 @@ use crate::heavier::{Heavier, heavier_matching};
 use crate::pairs::least_of;
 use bip_graph::Matching;
 use sp_ids::{Col, OutOfMemory};
-use sp_pattern::{Pattern, Weights};
+use sp_pattern::{Neighbours, Weights};
 use std::alloc::Global;
 
 /// A perfect matching of greater least weight, where there is one: the weights from the least one
@@ -19,24 +19,20 @@ use std::alloc::Global;
 /// the last weight of those that were tried in vain, where one was.
 pub fn raised(
     alloc: Global,
-    pattern: &Pattern,
     weights: &Weights,
     matching: Matching,
     bound: u64,
 ) -> Result<(Matching, Option<Heavier>), OutOfMemory>
-    requires of { weights.now.matrix ≡ pattern.now }
-    requires square { pattern.now.rows ≡ cols pattern.now }
-    requires matching { IsMatchingOf pattern.now matching }
-    requires full { length matching.pairs ≡ cols pattern.now }
-    ensures matching { IfOk result (λ o. IsMatchingOf pattern.now o.0) }
-    ensures full { IfOk result (λ o. length o.0.pairs ≡ cols pattern.now) }
-    ensures short { IfOk result
-        (λ o. IfSome o.1 (IsShort pattern.now (weight_at weights.now))) }
+    requires matching { IsMatchingOf weights.now.matrix matching }
+    requires full { length matching.pairs ≡ cols weights.now.matrix }
+    ensures matching { IfOk result (λ o. IsMatchingOf weights.now.matrix o.0) }
+    ensures full { IfOk result (λ o. length o.0.pairs ≡ cols weights.now.matrix) }
+    ensures short { IfOk result (λ o. IfSome o.1 (IsShort weights.now)) }
 {
     let pairs = matching.pairs(alloc)?;
     let least = least_of(weights, pairs.as_slice(), 0);
     drop(pairs);
-    let thresholds = weights_between(alloc, pattern, weights, least, bound)?;
+    let thresholds = weights_between(alloc, weights, least, bound)?;
     let mut matching = matching;
     let mut short = None;
     let mut low = 0;
@@ -44,8 +40,8 @@ pub fn raised(
     while low < high {
         let middle = low + (high - low) / 2;
         let above = thresholds[middle];
-        let heavier = heavier_matching(alloc, pattern, weights, &matching, above)?;
-        if heavier.maximum.size() < pattern.cols() {
+        let heavier = heavier_matching(alloc, weights, &matching, above)?;
+        if heavier.maximum.size() < weights.cols() {
             short = Some(heavier);
             high = middle;
             continue;
@@ -60,15 +56,12 @@ pub fn raised(
 // try, so nothing is said of them.
 fn weights_between(
     alloc: Global,
-    pattern: &Pattern,
     weights: &Weights,
     low: u64,
     high: u64,
-) -> Result<Vec<u64>, OutOfMemory>
-    requires { weights.now.matrix ≡ pattern.now }
-{
+) -> Result<Vec<u64>, OutOfMemory> {
     let mut between = Vec::new(alloc);
-    for col in 0..pattern.cols() {
+    for col in 0..weights.cols() {
         for weight in weights.weights_of(Col(col)) {
             if low <= *weight && *weight < high {
                 between.push(*weight)?;

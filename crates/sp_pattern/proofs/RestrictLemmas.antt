@@ -7,13 +7,13 @@ use Rattle.bip_defs.specs.Bottleneck.{restricted}
 use Rattle.bip_defs.specs.Lists.{Among, IsRising, Lists}
 use Rattle.bip_defs.specs.Matching.{transposed_places}
 use Rattle.bip_defs.specs.Matrix.{HasPlaces, IsEntry, Matrix, Place, cols, column}
-use Rattle.bip_defs.proofs.BottleneckLemmas.{restricted_back, restricted_cols, restricted_lists, restricted_over}
+use Rattle.bip_defs.proofs.BottleneckLemmas.{passing, restricted_back, restricted_cols, restricted_lists, restricted_over}
 use Rattle.bip_defs.proofs.Sets.{among_either, among_left, among_right, below_each_from, below_each_sound, entry_col, filter_complete, filter_sound, number_same, rising_filter}
 use Rattle.bip_defs.proofs.Transposed.{turned_among, turned_back}
 use Rattle.bip_defs.proofs.Uniqueness.{same_matrix}
 use Rattle.sp_ids.specs.Entries.{Entries, places}
 use Rattle.sp_pattern.specs.Pairs.{IsCompressed, IsOrderOf, Pair}
-use Rattle.sp_pattern.specs.Restricted.{AreKept, Decides, passing_rows, taken, taken_rows}
+use Rattle.sp_pattern.specs.Restricted.{AreKept, Decides, taken, taken_rows}
 use Rattle.sp_pattern.specs.Weights.{AreSums, Weighing, nonzero_places, place_in, position, start_of, weight_at, weight_of}
 use Rattle.sp_pattern.proofs.Both.{order_itself}
 use Rattle.sp_pattern.proofs.LoadLemmas.{compressed_extend, with_outer, with_outer_back, with_outer_over}
@@ -178,18 +178,18 @@ taking_end a takes k starts opened flat listed t done long stays = keeping_end a
 -- The entries that pass a test.
 
 -- they are entries
-passing_entries : (a : Matrix) (passes : ℕ → ℕ → Bool) → ((c : ℕ) → Lists (λ r. IsEntry a r c) (column a c)) → (r c : ℕ) → Among r (passing_rows a passes c) → IsEntry a r c
+passing_entries : (a : Matrix) (passes : ℕ → ℕ → Bool) → ((c : ℕ) → Lists (λ r. IsEntry a r c) (column a c)) → (r c : ℕ) → Among r (passing a passes c) → IsEntry a r c
 passing_entries a passes listed r c h = (listed c).sound r (filter_sound (λ s. passes s c) r (column a c) h).0
 
-pub passing_step : (a : Matrix) (passes : ℕ → ℕ → Bool) (k : ℕ) (starts opened flat longer col : List ℕ) → IsRising (column a k) → IsKeeping a (passing_rows a passes) k starts flat → k < cols a → length opened ≡ k + 1
-    → ((ds : List Pair) → IsCompressed ds starts flat → IsCompressed ds opened flat) → col ≡ column a k → longer ≡ flat ++ filter (λ r. passes r k) col → IsKeeping a (passing_rows a passes) (k + 1) opened longer
+pub passing_step : (a : Matrix) (passes : ℕ → ℕ → Bool) (k : ℕ) (starts opened flat longer col : List ℕ) → IsRising (column a k) → IsKeeping a (passing a passes) k starts flat → k < cols a → length opened ≡ k + 1
+    → ((ds : List Pair) → IsCompressed ds starts flat → IsCompressed ds opened flat) → col ≡ column a k → longer ≡ flat ++ filter (λ r. passes r k) col → IsKeeping a (passing a passes) (k + 1) opened longer
 passing_step a passes k starts opened flat longer col up t lt long stays is more =
-    keeping_step a (passing_rows a passes) k starts opened flat longer (rising_filter (λ r. passes r k) (column a k) up) (let both = length-filter_both (λ r. passes r k) (λ r. not (passes r k)) (λ r. refl) (column a k) in omega (arith, both)) t lt long stays
+    keeping_step a (passing a passes) k starts opened flat longer (rising_filter (λ r. passes r k) (column a k) up) (let both = length-filter_both (λ r. passes r k) (λ r. not (passes r k)) (λ r. refl) (column a k) in omega (arith, both)) t lt long stays
     (more ∙ ap (λ xs. flat ++ filter (λ r. passes r k) xs) is)
 
-pub passing_end : (a : Matrix) (passes : ℕ → ℕ → Bool) (k : ℕ) (starts opened flat : List ℕ) → ((c : ℕ) → Lists (λ r. IsEntry a r c) (column a c)) → IsKeeping a (passing_rows a passes) k starts flat → k ≡ cols a → length opened ≡ cols a + 1
-    → ((ds : List Pair) → IsCompressed ds starts flat → IsCompressed ds opened flat) → AreKept a (passing_rows a passes) opened flat
-passing_end a passes k starts opened flat listed t done long stays = keeping_end a (passing_rows a passes) k starts opened flat (passing_entries a passes listed) t done long stays
+pub passing_end : (a : Matrix) (passes : ℕ → ℕ → Bool) (k : ℕ) (starts opened flat : List ℕ) → ((c : ℕ) → Lists (λ r. IsEntry a r c) (column a c)) → IsKeeping a (passing a passes) k starts flat → k ≡ cols a → length opened ≡ cols a + 1
+    → ((ds : List Pair) → IsCompressed ds starts flat → IsCompressed ds opened flat) → AreKept a (passing a passes) opened flat
+passing_end a passes k starts opened flat listed t done long stays = keeping_end a (passing a passes) k starts opened flat (passing_entries a passes listed) t done long stays
 
 -- What has the places that are kept is the restricted matrix, where they are those that pass.
 
@@ -228,7 +228,7 @@ taken_passing a takes passes listed decides r c = (over, back)
     back : IsEntry a r c × (passes r c ≡ true) → Among r (taken_rows a takes c)
     back both = taken_back takes (start_of a c) (column a c) r (listed c).rising both.0.1 (decides r c both.0 ∙ both.1)
 
-tested_passing : (a : Matrix) (passes : ℕ → ℕ → Bool) → ((c : ℕ) → Lists (λ r. IsEntry a r c) (column a c)) → ArePassing a (passing_rows a passes) passes
+tested_passing : (a : Matrix) (passes : ℕ → ℕ → Bool) → ((c : ℕ) → Lists (λ r. IsEntry a r c) (column a c)) → ArePassing a (passing a passes) passes
 tested_passing a passes listed r c = (
   (λ h. let both = filter_sound (λ s. passes s c) r (column a c) h in ((listed c).sound r both.0, both.1)),
   λ both. filter_complete (λ s. passes s c) r (column a c) both.0.1 both.1,
@@ -246,9 +246,9 @@ pub restricted_from : (a b : Matrix) (takes : ℕ → Bool) (passes : ℕ → �
     → ((ps : List Pair) → IsOrderOf columns rows ps starts flat → HasPlaces rows columns (transposed_places ps) b) → Decides a takes passes → b ≡ restricted a passes
 restricted_from a b takes passes rows columns starts flat listed t er ec h decides = made_from a b (taken_rows a takes) passes rows columns starts flat listed t er ec h (taken_passing a takes passes listed decides)
 
-pub filtered_from : (a b : Matrix) (passes : ℕ → ℕ → Bool) (rows columns : ℕ) (starts flat : List ℕ) → ((c : ℕ) → Lists (λ r. IsEntry a r c) (column a c)) → AreKept a (passing_rows a passes) starts flat → rows ≡ a.rows → columns ≡ cols a
+pub filtered_from : (a b : Matrix) (passes : ℕ → ℕ → Bool) (rows columns : ℕ) (starts flat : List ℕ) → ((c : ℕ) → Lists (λ r. IsEntry a r c) (column a c)) → AreKept a (passing a passes) starts flat → rows ≡ a.rows → columns ≡ cols a
     → ((ps : List Pair) → IsOrderOf columns rows ps starts flat → HasPlaces rows columns (transposed_places ps) b) → b ≡ restricted a passes
-filtered_from a b passes rows columns starts flat listed t er ec h = made_from a b (passing_rows a passes) passes rows columns starts flat listed t er ec h (tested_passing a passes listed)
+filtered_from a b passes rows columns starts flat listed t er ec h = made_from a b (passing a passes) passes rows columns starts flat listed t er ec h (tested_passing a passes listed)
 
 -- the weight of an entry is the one that is read where it stands
 pub weights_decide : (w : Weighing) (a : Matrix) (least : ℕ) (ws : List ℕ) → w.matrix ≡ a → ws ≡ w.weights → Decides a (λ at. nat_lt least (get_or ws at 0)) (λ r c. nat_lt least (weight_at w r c))

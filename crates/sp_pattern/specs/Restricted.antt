@@ -1,5 +1,5 @@
 -- Some entries of a matrix, column by column.
-use Rattle.std.specs.Prelude.{◌≡◌, ◌↔◌, ℕ, ◌+◌, ◌<◌, ◌≤◌, Bool, List, [], ◌∷◌, filter, length, if◌then◌else◌}
+use Rattle.std.specs.Prelude.{◌≡◌, ◌↔◌, ℕ, ◌+◌, ◌<◌, ◌≤◌, Bool, List, [], ◌∷◌, length, if◌then◌else◌}
 use Rattle.bip_defs.specs.Lists.{Among}
 use Rattle.bip_defs.specs.Matrix.{IsEntry, Matrix, cols, column, entry_count}
 use Rattle.sp_pattern.specs.Pairs.{IsOrder, Pair}
@@ -13,10 +13,6 @@ taken takes at (x ∷ xs) = if takes at then x ∷ taken takes (at + 1) xs else 
 -- the rows of a column's entries that are taken, by where these stand
 abbrev pub taken_rows : Matrix → (ℕ → Bool) → ℕ → List ℕ
 taken_rows a takes c = taken takes (start_of a c) (column a c)
-
--- the rows of a column's entries that pass a test of their row and column
-abbrev pub passing_rows : Matrix → (ℕ → ℕ → Bool) → ℕ → List ℕ
-passing_rows a passes c = filter (λ r. passes r c) (column a c)
 
 -- the flat lists have these rows of each column, column by column
 pub record AreKept (a : Matrix) (kept : ℕ → List ℕ) (starts flat : List ℕ) : Type 0 where

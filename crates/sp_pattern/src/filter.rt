@@ -4,7 +4,7 @@ ghost use Rattle.std.specs.Prelude.{◌≡◌, ◌<◌, ◌++◌, ℕ, Bool, fil
 ghost use Rattle.bip_defs.specs.Bottleneck.{restricted};
 ghost use Rattle.bip_defs.specs.Lists.{Lists};
 ghost use Rattle.bip_defs.specs.Matrix.{IsEntry, Matrix, cols, column};
-ghost use Rattle.sp_pattern.specs.Restricted.{AreKept, passing_rows};
+ghost use Rattle.sp_pattern.specs.Restricted.{AreKept};
 
 use crate::Pattern;
 use crate::compress::fill_starts;
@@ -52,8 +52,8 @@ impl Pattern {
         keep: &F,
     ) -> Result<(Vec<u32>, Vec<Row>), OutOfMemory>
         requires { F.matrix keep.now ≡ self.now }
-        ensures { IfOk result
-            (λ o. AreKept self.now (passing_rows self.now (F.keeps keep.now)) o.0.items o.1.items) }
+        ensures { IfOk result (λ o. AreKept self.now
+            (λ c. filter (λ r. F.keeps keep.now r c) (column self.now c)) o.0.items o.1.items) }
     {
         self.is_pattern();
         let cols = self.cols();

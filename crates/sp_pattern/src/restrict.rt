@@ -29,12 +29,12 @@ pub trait Choice {
 
 /// The entries whose weight is greater than `least`.
 #[derive(Clone, Copy)]
-pub struct Heavier<'w> {
+pub struct AboveWeight<'w> {
     pub weights: &'w [u64],
     pub least: u64,
 }
 
-impl Choice for Heavier<'_> {
+impl Choice for AboveWeight<'_> {
     ghost count = { λ s. length s.weights.now };
 
     ghost takes = { λ s at. nat_lt s.least (slice_index s.weights.now at) };
@@ -86,12 +86,7 @@ impl Pattern {
         )
     }
 
-    /// The pattern of the entries whose weight is greater than `least`.
-    ///
-    /// The weights must be those of this pattern. Answers `OutOfMemory` where there is no memory
-    /// for the pattern, in which the list by columns has room for all entries, or for what
-    /// [`Pattern::build`] takes while the second order is derived from the first. Work: linear in
-    /// the entries, the rows and the columns.
+    /// [`Weights::above`] of weights, which must be those of this pattern.
     pub fn above(
         &self,
         alloc: Global,
@@ -101,13 +96,7 @@ impl Pattern {
         requires { weights.now.matrix ≡ self.now }
         ensures { IfOk result (λ b. b ≡ above self.now (weight_at weights.now) least) }
     {
-        self.restrict(
-            alloc,
-            &Heavier {
-                weights: weights.weights(),
-                least,
-            },
-        )
+        weights.above(alloc, least)
     }
 
     // The pattern of the entries that are taken.
@@ -142,6 +131,21 @@ impl Pattern {
         }
         fill_starts(&mut starts, cols, rows.len() as u32)?;
         Ok((starts, rows))
+    }
+}
+
+impl<'p> Weights<'p> {
+    /// The pattern of the entries whose weight is greater than `least`.
+    ///
+    /// Answers `OutOfMemory` where there is no memory for the pattern, in which the list by columns
+    /// has room for all entries, or for what [`Pattern::build`] takes while the second order is
+    /// derived from the first. Work: linear in the entries, the rows and the columns.
+    pub fn above(&self, alloc: Global, least: u64) -> Result<Pattern, OutOfMemory>
+        ensures { IfOk result (λ b. b ≡ above self.now.matrix (weight_at self.now) least) }
+    {
+        let weights = self.weights();
+        self.pattern()
+            .restrict(alloc, &AboveWeight { weights, least })
     }
 }
 

@@ -4,6 +4,7 @@ ghost use Rattle.std.specs.Prelude.{◌≡◌, ◌<◌, map};
 ghost use Rattle.bip_defs.specs.Lists.{Lists};
 ghost use Rattle.bip_defs.specs.Matrix.{IsEntry, Matrix, cols, column, transpose};
 
+use crate::Weights;
 use crate::pattern::Pattern;
 use sp_ids::{Col, Id, Row};
 
@@ -33,8 +34,8 @@ pub trait Side<Far: Id> {
 }
 
 /// A set of places within a number of rows and columns, which lends the rows of each column: all
-/// that a search from the columns asks of a matrix. A pattern is one, and whatever is one is seen as
-/// a [`Side`] from its columns.
+/// that a search from the columns asks of a matrix. A pattern is one, and so are the weights of a
+/// pattern's entries; whatever is one is seen as a [`Side`] from its columns.
 pub trait Neighbours {
     /// The matrix whose entries are the places.
     ghost matrix: { Self → Matrix };
@@ -67,6 +68,22 @@ impl Neighbours for Pattern {
 
     fn rows_of(&self, col: Col) -> &[Row] {
         Pattern::rows_of(self, col)
+    }
+}
+
+impl<'p> Neighbours for Weights<'p> {
+    ghost matrix = { λ w. w.matrix };
+
+    fn rows(&self) -> u32 {
+        self.pattern().rows()
+    }
+
+    fn cols(&self) -> u32 {
+        self.pattern().cols()
+    }
+
+    fn rows_of(&self, col: Col) -> &[Row] {
+        self.pattern().rows_of(col)
     }
 }
 

@@ -46,6 +46,13 @@ impl<'p> Model for Weights<'p> {
 }
 
 impl<'p> Weights<'p> {
+    /// The pattern whose entries have these weights.
+    pub fn pattern(&self) -> &'p Pattern
+        ensures { result.now ≡ self.now.matrix }
+    {
+        self.pattern
+    }
+
     /// The weights of a column's entries, in the order in which `Pattern::rows_of` lends its rows,
     /// lent without copying.
     pub fn weights_of(&self, col: Col) -> &[u64]

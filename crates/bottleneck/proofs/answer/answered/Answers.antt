@@ -9,12 +9,12 @@ use Rattle.bottleneck.proofs.PairLemmas.{are_entries}
 use Rattle.bottleneck.proofs.answer.answered.Goals as goal
 
 pub least_of-least-requires-clause-entries : goal.least_of-least-requires-clause-entries
-least_of-least-requires-clause-entries c = are_entries c.args.pattern.now c.args.weights.now.matrix c.args.matching.pairs c.as_slice.result.now c.requires.of c.requires.matching.matching (c.as_slice.ensures.value ∙ c.in_ok-pairs.ensures)
+least_of-least-requires-clause-entries c = are_entries c.args.weights.now.matrix c.args.matching.pairs c.as_slice.result.now c.requires.matching.matching (c.as_slice.ensures.value ∙ c.in_ok-pairs.ensures)
 
 pub with_hall_set-requires-clause-full : goal.with_hall_set-requires-clause-full
 with_hall_set-requires-clause-full c =
     let long = c.requires.full in
-    subst (λ (z : List Place). IsFull c.args.pattern.now z) (sym c.in_ok-pairs.ensures) (long_full c.args.pattern.now c.args.matching.pairs c.requires.square c.requires.matching.matching (omega (arith, long)))
+    subst (λ (z : List Place). IsFull c.args.weights.now.matrix z) (sym c.in_ok-pairs.ensures) (long_full c.args.weights.now.matrix c.args.matching.pairs c.requires.square c.requires.matching.matching (omega (arith, long)))
 
 pub with_hall_set-requires-clause-rising : goal.with_hall_set-requires-clause-rising
 with_hall_set-requires-clause-rising c = subst (λ (z : List Place). IsRising (cols_of z)) (sym c.in_ok-pairs.ensures) c.is_matching.ensures.cols_rise

@@ -7,8 +7,8 @@ use Rattle.bottleneck.proofs.answer.shown.Given as goal
 
 abbrev pub invariant-loop-pairs : goal.invariant-loop-pairs
 invariant-loop-pairs l = record {
-  matching : IsMatchingOf l.pattern l.matching;
-  full : length l.matching.pairs ≡ cols l.pattern;
+  matching : IsMatchingOf l.weights.matrix l.matching;
+  full : length l.matching.pairs ≡ cols l.weights.matrix;
   pairs : l.pairs.items ≡ l.matching.pairs;
   least : IsLeastWeight (weight_at l.weights) l.matching.pairs l.least;
 }

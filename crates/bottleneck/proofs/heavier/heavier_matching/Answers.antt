@@ -5,4 +5,4 @@ use Rattle.bottleneck.proofs.heavier.heavier_matching.Goals as goal
 use Rattle.bip_defs.proofs.BottleneckLemmas.{above_cols}
 
 pub pairs_left-requires-clause-cols : goal.pairs_left-requires-clause-cols
-pairs_left-requires-clause-cols c = c.requires.matching.cols ∙ sym (ap cols c.in_ok-entries.ensures ∙ above_cols c.args.pattern.now (weight_at c.args.weights.now) c.args.above)
+pairs_left-requires-clause-cols c = c.requires.matching.cols ∙ sym (ap cols c.in_ok-entries.ensures ∙ above_cols c.args.weights.now.matrix (weight_at c.args.weights.now) c.args.above)

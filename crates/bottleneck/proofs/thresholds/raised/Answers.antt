@@ -6,7 +6,7 @@ use Rattle.bottleneck.proofs.PairLemmas.{are_entries}
 use Rattle.bottleneck.proofs.thresholds.raised.Goals as goal
 
 pub least_of-least-requires-clause-entries : goal.least_of-least-requires-clause-entries
-least_of-least-requires-clause-entries c = are_entries c.args.pattern.now c.args.weights.now.matrix c.args.matching.pairs c.as_slice.result.now c.requires.of c.requires.matching.matching (c.as_slice.ensures.value ∙ c.in_ok-pairs.ensures)
+least_of-least-requires-clause-entries c = are_entries c.args.weights.now.matrix c.args.matching.pairs c.as_slice.result.now c.requires.matching.matching (c.as_slice.ensures.value ∙ c.in_ok-pairs.ensures)
 
 pub loop-low-preserved-then-size-cols : goal.loop-low-preserved-then-size-cols
 loop-low-preserved-then-size-cols c =
@@ -29,10 +29,10 @@ loop-low-preserved c =
     let n = c.cols.ensures in
     let long = c.if-size-cols.false in
     let h = c.in_ok-heavier.ensures.heavier in
-    let k = lowered c.args.pattern.now c.in_ok-heavier.heavier.entries (weight_at c.args.weights.now) c.in_ok-heavier.heavier.above c.in_ok-heavier.heavier.maximum h.entries h.maximum.matching in
+    let k = lowered c.args.weights.now.matrix c.in_ok-heavier.heavier.entries (weight_at c.args.weights.now) c.in_ok-heavier.heavier.above c.in_ok-heavier.heavier.maximum h.entries h.maximum.matching in
     record {
       matching = k;
-      full = not_short c.args.pattern.now c.in_ok-heavier.heavier.maximum.pairs k.matching (omega (arith, long, size, n));
+      full = not_short c.args.weights.now.matrix c.in_ok-heavier.heavier.maximum.pairs k.matching (omega (arith, long, size, n));
       short = c.loop-low.invariant.short;
       within = within;
     }
