@@ -1,5 +1,5 @@
 -- The coarse parts of Dulmage and Mendelsohn: horizontal, vertical, square.
-use Rattle.std.specs.Prelude.{ℕ, ◌<◌, Bool, List}
+use Rattle.std.specs.Prelude.{ℕ, ◌≡◌, ◌<◌, ◌+◌, Bool, List, length}
 use Rattle.bip_defs.specs.Lists.{Among, Lists}
 use Rattle.bip_defs.specs.Marks.{Marks}
 use Rattle.bip_defs.specs.Matching.{IsMaximum, cols_of, rows_of}
@@ -57,3 +57,15 @@ pub record ArePartsOf (a : Matrix) (p : Parts) : Type 0 where
   pub square_cols : Lists (IsSquareCol a) p.square_cols
   pub vertical_rows : Lists (IsVerticalRow a) p.vertical_rows
   pub vertical_cols : Lists (IsVerticalCol a) p.vertical_cols
+
+-- each row and each column is in one part
+pub record AreAllCounted (a : Matrix) (p : Parts) : Type 0 where
+  pub rows : length p.horizontal_rows + length p.square_rows + length p.vertical_rows ≡ a.rows
+  pub cols : length p.horizontal_cols + length p.square_cols + length p.vertical_cols ≡ cols a
+
+-- the horizontal part has more columns than rows, and the vertical part more rows than columns, by as many
+-- as the matching leaves unmatched
+pub record HasSurplus (a : Matrix) (m : List Place) (p : Parts) : Type 0 where
+  pub square : length p.square_rows ≡ length p.square_cols
+  pub horizontal : length p.horizontal_cols + length m ≡ cols a + length p.horizontal_rows
+  pub vertical : length p.vertical_rows + length m ≡ a.rows + length p.vertical_cols

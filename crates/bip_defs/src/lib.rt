@@ -12,7 +12,7 @@ ghost use Rattle.bip_defs.specs.LeastMatching.{IsLeastMaximum, code};
 ghost use Rattle.bip_defs.specs.Lists.{Among, IsRising, Lists};
 ghost use Rattle.bip_defs.specs.Matching.{IsHallSet, IsMatching, IsMaximum, IsRank, cols_of, transposed_places};
 ghost use Rattle.bip_defs.specs.Matrix.{AreEntries, HasPlaces, IsEntry, IsTransposeOf, Matrix, Place, cols, neighbours, row_list, transpose};
-ghost use Rattle.bip_defs.specs.Parts.{ArePartsOf, IsHorizontalCol, IsHorizontalRow, IsSquareCol, IsVerticalCol, IsVerticalRow, Parts};
+ghost use Rattle.bip_defs.specs.Parts.{AreAllCounted, ArePartsOf, HasSurplus, IsHorizontalCol, IsHorizontalRow, IsSquareCol, IsVerticalCol, IsVerticalRow, Parts};
 ghost use Rattle.bip_defs.specs.Paths.{IsAugmenting};
 ghost use Rattle.bip_defs.specs.Searches.{AreReadOff};
 ghost use Rattle.bip_defs.specs.Walks.{IsReached};
@@ -85,19 +85,12 @@ pub fn searches_give_parts()
 
 /// How many rows and columns the parts have.
 ///
-/// `horizontal` and `vertical` say that the surplus of a part is what a maximum matching leaves
-/// unmatched (Dulmage and Mendelsohn 1958; Pothen and Fan 1990).
+/// The surplus of the horizontal and of the vertical part is what a maximum matching leaves unmatched
+/// (Dulmage and Mendelsohn 1958; Pothen and Fan 1990).
 pub fn parts_counted()
-    ensures rows { (a : Matrix) (p : Parts) → ArePartsOf a p
-        → length p.horizontal_rows + length p.square_rows + length p.vertical_rows ≡ a.rows }
-    ensures cols { (a : Matrix) (p : Parts) → ArePartsOf a p
-        → length p.horizontal_cols + length p.square_cols + length p.vertical_cols ≡ cols a }
-    ensures square { (a : Matrix) (m : List Place) (p : Parts) → IsMaximum a m → ArePartsOf a p
-        → length p.square_rows ≡ length p.square_cols }
-    ensures horizontal { (a : Matrix) (m : List Place) (p : Parts) → IsMaximum a m → ArePartsOf a p
-        → length p.horizontal_cols + length m ≡ cols a + length p.horizontal_rows }
-    ensures vertical { (a : Matrix) (m : List Place) (p : Parts) → IsMaximum a m → ArePartsOf a p
-        → length p.vertical_rows + length m ≡ a.rows + length p.vertical_cols }
+    ensures all { (a : Matrix) (p : Parts) → ArePartsOf a p → AreAllCounted a p }
+    ensures surplus { (a : Matrix) (m : List Place) (p : Parts) → IsMaximum a m → ArePartsOf a p
+        → HasSurplus a m p }
     ensures rank { (a : Matrix) (k : ℕ) (p : Parts) → IsRank a k → ArePartsOf a p
         → k ≡ length p.horizontal_rows + length p.square_rows + length p.vertical_cols }
 {}
