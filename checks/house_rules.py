@@ -18,11 +18,12 @@ import rattle_source as source  # noqa: E402
 
 # The most findings of a rule: lower the number where findings go.
 AT_MOST = {
-    "contract above ten lines": 99,
-    "more than five arguments": 32,
+    "contract above ten lines": 63,
+    "more than five arguments": 23,
+    "law called in a body": 127,
     "clause wider than 100 columns": 1,
-    "statement stands twice": 33,
-    "name with two meanings": 11,
+    "statement stands twice": 19,
+    "name with two meanings": 8,
 }
 
 FROM_OUTSIDE = {"rt", "alloc", "self", "&self", "&mut self"}
@@ -107,9 +108,20 @@ def two_meanings(_functions):
             yield name, ", ".join(sorted(crates))
 
 
+def laws_called(functions):
+    """Calls of laws, which compute nothing, in bodies that compute something."""
+    laws = {function.name for function in functions if function.is_law}
+    for function in functions:
+        if function.body and not function.is_law:
+            for name in re.findall(r"^\s*(?:\w+::)*(\w+)\(.*$", function.body, re.M):
+                if name in laws:
+                    yield f"{function.path} {name}", function.place
+
+
 RULES = {
     "contract above ten lines": long_contracts,
     "more than five arguments": many_arguments,
+    "law called in a body": laws_called,
     "public function without ensures": without_ensures,
     "clause wider than 100 columns": wide_clauses,
     "limit as digits": limits_as_digits,
@@ -129,14 +141,36 @@ def listed():
     return found
 
 
+def facts_of(record, records, above=()):
+    """How many facts a record states, those of the records among its fields included."""
+    crate, name = record
+    count = 0
+    for kind in records[record]:
+        head = re.match(r"[\w-]+", kind)
+        inner = named_record(crate, head.group(0), records) if head else None
+        count += facts_of(inner, records, (*above, record)) if inner and inner not in above and inner != record else 1
+    return count
+
+
+def named_record(crate, name, records):
+    """The record that a clause of the crate means by this name: its own, or the only one of that name."""
+    if (crate, name) in records:
+        return crate, name
+    others = [record for record in records if record[1] == name]
+    return others[0] if len(others) == 1 else None
+
+
 def fitting(functions):
-    """Clauses of `requires` that speak of two arguments: nearly all say that these fit together."""
+    """Of each clause of `requires` that speaks of two arguments how many facts it states: nearly all say that these fit together."""
+    records = source.records()
     for function in functions:
         names = ["self" if "self" in name else name for name, _ in function.arguments]
         for clause in function.clauses:
-            said = clause.text.split("{", 1)[1]
+            said = clause.text.split("{", 1)[1].strip()
             if clause.kind == "requires" and sum(bool(re.search(rf"\b{re.escape(name)}\b", said)) for name in names) > 1:
-                yield clause
+                head = re.match(r"[\w-]+", said)
+                record = named_record(function.crate, head.group(0), records) if head else None
+                yield facts_of(record, records) if record else 1
 
 
 def main(words):
@@ -145,7 +179,8 @@ def main(words):
     shows = words[:1] == ["--figures"]
     if shows:
         print(f"{len(functions)} functions, {sum(len(it.clauses) for it in functions)} clauses in {sum(it.contract_lines for it in functions)} lines")
-        print(f"{sum(1 for _ in fitting(functions))} clauses of `requires` speak of two arguments")
+        facts = list(fitting(functions))
+        print(f"{len(facts)} clauses of `requires` speak of two arguments, and state {sum(facts)} facts, those of the fields of records included")
     for rule, find in RULES.items():
         findings = list(find(functions))
         if words[:1] == ["--all"]:

@@ -35,6 +35,16 @@ class Function:
     clauses: list = field(default_factory=list)
     is_test: bool = False
     implements: bool = False
+    result: bool = False
+    body: str = None
+
+    @property
+    def is_law(self):
+        """Whether it computes nothing: no result, and a body that is empty or calls other functions of that kind alone."""
+        body = [line.strip() for line in (self.body or "").split("\n") if line.strip() and not line.strip().startswith("//")]
+        changes = any(kind.startswith("&mut") or name == "&mut self" for name, kind in self.arguments)
+        says = any(clause.kind == "ensures" for clause in self.clauses)
+        return says and self.body is not None and not self.result and not changes and all(re.fullmatch(r"[\w:]+\(.*\);", line) for line in body)
 
     @property
     def place(self):
@@ -65,8 +75,8 @@ def text_of(path):
         return file.read()
 
 
-def arguments_of(signature):
-    """The (name, type) pairs of a signature, `self` among them."""
+def parts_of(signature):
+    """The pieces between the commas of a signature's arguments, and what stands behind them."""
     head = signature[signature.index("fn "):]
     at, angle = 0, 0
     # (type parameters may stand before the arguments)
@@ -77,7 +87,7 @@ def arguments_of(signature):
             angle -= 1
         elif letter == "(" and not angle:
             break
-    inner, depth, piece = [], 0, ""
+    inner, depth, piece, index = [], 0, "", at
     for index in range(at, len(head)):
         letter = head[index]
         if letter in "([{<":
@@ -91,9 +101,17 @@ def arguments_of(signature):
             piece = ""
         elif index > at:
             piece += letter
-    inner.append(piece)
+    return inner + [piece], head[index:]
+
+
+def after_arguments(signature):
+    return parts_of(signature)[1]
+
+
+def arguments_of(signature):
+    """The (name, type) pairs of a signature, `self` among them."""
     found = []
-    for piece in inner:
+    for piece in parts_of(signature)[0]:
         piece = " ".join(piece.split())
         if not piece:
             continue
@@ -131,18 +149,27 @@ def functions_of(path, crate):
         function = Function(crate, path, begin + 1, owner if head.group(1) else "", head.group(3),
                             head.group(2) == "pub " or bool(is_trait and head.group(1)), arguments_of(signature))
         function.implements = implements and bool(head.group(1))
+        function.result = "->" in after_arguments(signature)
         function.is_test = any(lines[above].strip() == "#[test]" for above in range(max(0, begin - 3), begin))
+        depth = 0
         while at < len(lines) and (lines[at].strip() != "{" and not signature.rstrip().endswith(("{", ";", "{}"))):
+            depth += lines[at].count("{") - lines[at].count("}")
             clause = CLAUSE.match(lines[at])
             if clause:
                 function.clauses.append(Clause(clause.group(1), clause.group(2) or "", lines[at].strip(), at + 1))
             elif function.clauses and lines[at].strip() and not lines[at].strip().startswith("//"):
                 function.clauses[-1].text += " " + lines[at].strip()
                 function.clauses[-1].lines += 1
-            if lines[at].strip() == "{}" or lines[at].rstrip().endswith(";") and lines[at].count("{") == lines[at].count("}"):
+            if lines[at].strip() == "{}" or lines[at].rstrip().endswith(";") and depth == 0:
+                function.body = "" if lines[at].strip() == "{}" else None
                 at += 1
                 break
             at += 1
+        if signature.rstrip().endswith("{}"):
+            function.body = ""
+        elif signature.rstrip().endswith("{") or at < len(lines) and lines[at].strip() == "{":
+            ends = next((below for below in range(at, len(lines)) if lines[below] == head.group(1) + "}"), len(lines))
+            function.body = "\n".join(lines[at:ends]).lstrip("{")
         yield function
 
 
@@ -168,6 +195,18 @@ def statements_of(path):
             text.append(lines[at])
             at += 1
         yield begin + 1, found.group(2), found.group(1) or "lemma", "\n".join(text)
+
+
+def records():
+    """Of each record of specs/ the types of its fields, by the crate and the record's name."""
+    found = {}
+    for crate in crates():
+        for path in files(crate, "specs", ".antt"):
+            for _line, name, kind, text in statements_of(path):
+                if kind == "record" or re.match(r"(?:pub )?record ", text):
+                    name = re.match(r"(?:pub )?record (\S+)", text).group(1)
+                    found[crate, name] = re.findall(r"^  (?:pub )?\S+ : (.*(?:\n    .*)*)", text, re.M)
+    return found
 
 
 def shape_of(name, text):
