@@ -25,7 +25,7 @@ use Rattle.mm_reader.specs.declared.number.Integer.{Integer}
 use Rattle.mm_reader.specs.declared.plain.PlainLine.{PlainLine}
 use Rattle.mm_reader.specs.Judged.{JudgedEntry}
 use Rattle.mm_reader.specs.Tokens.{capped, ReadsInteger}
-use Rattle.mm_reader.specs.Plain.{between, is_inner, is_visible, stands_apart, IsRun, IsDigits, IsNextLine, HasValues, IsPlainLine, IsWholeLine}
+use Rattle.mm_reader.specs.Plain.{between, is_inner, is_visible, stands_apart, IsRun, IsDigits, IsNextLine, HasValues, IsUsual, IsWholeLine, SaysEntry}
 use Rattle.mm_reader.proofs.Judges.{entry_judged}
 use Rattle.mm_reader.proofs.Words.{words-none, words-blank}
 use Rattle.mm_reader.proofs.Numbers.{all_ascii_digits-push, digit_at}
@@ -245,7 +245,7 @@ whole_found bytes from end next line ordered within to_is lf_is whole inner = re
 -- the line that was found
 pub plain_found : (f : Field) (bytes : List ℕ) (from e1 s2 e2 e3 next row col : ℕ) (value : Integer) → IsDigits bytes from e1 row → e1 ≢ from
     → IsRun is_blank bytes e1 s2 → s2 ≢ e1 → IsDigits bytes s2 e2 col → e2 ≢ s2 → HasValues f bytes e2 e3 value → IsNextLine bytes e3 next
-    → IsPlainLine f bytes from (record { row = row; col = col; value = value; next = next })
+    → IsUsual (SaysEntry f (record { row = row; col = col; value = value; next = next })) bytes from next
 plain_found f bytes from e1 s2 e2 e3 next row col value d1 n1 r1 n2 d2 n3 v n =
     let end = n.end in
     let r2 = n.blanks_are in
@@ -276,16 +276,18 @@ plain_found f bytes from e1 s2 e2 e3 next row col value d1 n1 r1 n2 d2 n3 v n =
     record {
       line = line;
       whole = whole_found bytes from end next line ordered n.within n.to_is n.lf_is whole all_line;
-      first = w1;
-      second = w2;
-      values = words vs;
-      words_are = line_words w1 b1 w2 vs b2 h1 h2 h3 v1 r1.all v3 v.apart r2.all;
-      count = v.count;
-      first_is = digits_number w1 h1 d1.all;
-      second_is = digits_number w2 h3 d2.all;
-      row_is = digits_value_is w1 row d1.all d1.value_is d1.small;
-      col_is = digits_value_is w2 col d2.all d2.value_is d2.small;
-      reads = v.reads;
+      says = record {
+        first = w1;
+        second = w2;
+        values = words vs;
+        words_are = line_words w1 b1 w2 vs b2 h1 h2 h3 v1 r1.all v3 v.apart r2.all;
+        count = v.count;
+        first_is = digits_number w1 h1 d1.all;
+        second_is = digits_number w2 h3 d2.all;
+        row_is = digits_value_is w1 row d1.all d1.value_is d1.small;
+        col_is = digits_value_is w2 col d2.all d2.value_is d2.small;
+        reads = v.reads;
+      };
     }
 
 -- ---- what an entry line of the usual form does
@@ -304,17 +306,17 @@ number_kept (b ∷ bs) ws h = number_first b bs (b == 37) refl h
 plain_count : (f : Field) (a b : List ℕ) (vs : List (List ℕ)) → length vs ≡ value_words f → (length (a ∷ b ∷ vs) == 2 + value_words f) ≡ true
 plain_count f a b vs h = eq-eqb (length (a ∷ b ∷ vs)) (2 + value_words f) (omega arith)
 
-module _ (h : Header) (piece : List ℕ) (at : ℕ) (l : PlainLine) (p : IsPlainLine h.field piece at l) where
-  pub plain_kept : is_skipped (words p.line) ≡ false
+module _ (h : Header) (l : PlainLine) (line : List ℕ) (p : SaysEntry h.field l line) where
+  pub plain_kept : is_skipped (words line) ≡ false
   plain_kept = ap is_skipped p.words_are ∙ number_kept p.first (p.second ∷ p.values) p.first_is
 
   -- what is judged of its place and value is judged of the line
   pub plain_judged : (s : Size) (r : Result Entry Kind)
       → ((i j : ℕ) (w : Word) → l.row ≡ capped i → l.col ≡ capped j → (is_integer_field h.field ≡ true → ReadsInteger w (Some l.value))
       → JudgedEntry (place_rules h s i j w) (triple_at h.field i j w) r)
-      → JudgedEntry (coordinate_rules h s (words p.line)) (triple h (words p.line)) r
+      → JudgedEntry (coordinate_rules h s (words line)) (triple h (words line)) r
   plain_judged s r judged =
-      let ws : List Word = words p.line in
+      let ws : List Word = words line in
       let w0 : word ws 0 ≡ p.first = ap (λ (t : List Word). word t 0) p.words_are in
       let w1 : word ws 1 ≡ p.second = ap (λ (t : List Word). word t 1) p.words_are in
       let w2 : word ws 2 ≡ word p.values 0 = ap (λ (t : List Word). word t 2) p.words_are in

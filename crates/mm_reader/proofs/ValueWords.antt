@@ -16,7 +16,7 @@ use Rattle.mm_reader.specs.declared.plain.PlainValue.{PlainValue}
 use Rattle.mm_reader.specs.Judged.{Judged}
 use Rattle.mm_reader.specs.Tokens.{capped, ReadsInteger}
 use Rattle.mm_reader.proofs.Judges.{value_judged}
-use Rattle.mm_reader.specs.Plain.{between, is_inner, is_visible, is_sign, stands_apart, IsRun, IsDigits, IsSign, IsIntegerHere, IsNextWord, IsNextInteger, IsNextLine, IsPlainValue, HasValues}
+use Rattle.mm_reader.specs.Plain.{between, is_inner, is_visible, is_sign, stands_apart, IsRun, IsDigits, IsSign, IsIntegerHere, IsNextWord, IsNextInteger, IsNextLine, IsUsual, HasValues, SaysValue}
 use Rattle.mm_reader.proofs.Words.{words-none}
 use Rattle.mm_reader.proofs.PlainLaws.{both_of, between-none, between_join, weaker, all_append, some_bytes, digits_visible, visible_inner, blank_inner, words-next, words-only_blanks, blanks_apart, apart_blanks, whole_found}
 
@@ -113,7 +113,7 @@ integer_behind bytes from start (Some x) b n i = record {
 
 -- a whole line of one integer
 pub value_found : (bytes : List ℕ) (from start end next : ℕ) (i : Integer) → IsRun is_blank bytes from start → IsIntegerHere bytes start end i → IsNextLine bytes end next
-    → IsPlainValue bytes from (record { value = i; next = next })
+    → IsUsual (SaysValue (record { value = i; next = next })) bytes from next
 value_found bytes from start end next i b h n =
     let r = n.blanks_are in
     let w = h.word_is in
@@ -132,9 +132,11 @@ value_found bytes from start end next i b h n =
     record {
       line = line;
       whole = whole_found bytes from n.end next line ordered n.within n.to_is n.lf_is whole inner;
-      word = word;
-      words_are = words-next bs word rest b.all some w.all (apart_blanks [] rest refl r.all) ∙ ap (λ (t : List (List ℕ)). word ∷ t) (words-only_blanks rest r.all);
-      reads = h.reads;
+      says = record {
+        word = word;
+        words_are = words-next bs word rest b.all some w.all (apart_blanks [] rest refl r.all) ∙ ap (λ (t : List (List ℕ)). word ∷ t) (words-only_blanks rest r.all);
+        reads = h.reads;
+      };
     }
 
 -- ---- what a value line of the usual form does
@@ -150,16 +152,16 @@ integer_kept : (w : List ℕ) (ws : List (List ℕ)) → is_integer w ≡ true �
 integer_kept [] ws h = absurd cc
 integer_kept (b ∷ bs) ws h = integer_first b bs (b == 37) refl h
 
-module _ (piece : List ℕ) (at : ℕ) (l : PlainValue) (p : IsPlainValue piece at l) where
-  pub value_kept : is_skipped (words p.line) ≡ false
+module _ (l : PlainValue) (line : List ℕ) (p : SaysValue l line) where
+  pub value_kept : is_skipped (words line) ≡ false
   value_kept = ap is_skipped p.words_are ∙ integer_kept p.word [] p.reads.0
 
   pub line_judged : (h : Header) (r : Result ℤ Kind) → h.field ≡ fields.Integer → ((w : List ℕ) → ReadsInteger w (Some l.value) → Judged (value_rules fields.Integer w) (integer w) r)
-      → Judged (array_rules h (words p.line)) (integer (word (words p.line) 0)) r
+      → Judged (array_rules h (words line)) (integer (word (words line) 0)) r
   line_judged h r field judged =
-      let w0 : word (words p.line) 0 ≡ p.word = ap (λ (t : List (List ℕ)). word t 0) p.words_are in
-      value_judged h (words p.line) (integer (word (words p.line) 0)) r field (ap (λ (t : List (List ℕ)). length t == 1) p.words_are)
-      (judged (word (words p.line) 0) (rw w0 p.reads))
+      let w0 : word (words line) 0 ≡ p.word = ap (λ (t : List (List ℕ)). word t 0) p.words_are in
+      value_judged h (words line) (integer (word (words line) 0)) r field (ap (λ (t : List (List ℕ)). length t == 1) p.words_are)
+      (judged (word (words line) 0) (rw w0 p.reads))
 
 -- ---- the value words of each field
 

@@ -103,11 +103,15 @@ pub record IsWholeLine (bytes : List ℕ) (from next : ℕ) (line : List ℕ) : 
   pub line_is : take (next - from) (drop from bytes) ≡ line ++ 10 ∷ []
   pub no_lf : slice_split is_lf line ≡ line ∷ []
 
--- The line that begins here has two numbers without signs and the value words of this field. Where the field is integer,
--- the first of them is the value.
-pub record IsPlainLine (f : Field) (bytes : List ℕ) (from : ℕ) (p : PlainLine) : Type 0 where
+-- A line lies whole in these bytes, and its bytes say this.
+pub record IsUsual (Says : List ℕ → Type 0) (bytes : List ℕ) (from next : ℕ) : Type 0 where
   pub line : List ℕ
-  pub whole : IsWholeLine bytes from p.next line
+  pub whole : IsWholeLine bytes from next line
+  pub says : Says line
+
+-- The line has two numbers without signs and the value words of this field. Where the field is
+-- integer, the first of them is the value.
+pub record SaysEntry (f : Field) (p : PlainLine) (line : List ℕ) : Type 0 where
   pub first : Word
   pub second : Word
   pub values : List Word
@@ -119,10 +123,8 @@ pub record IsPlainLine (f : Field) (bytes : List ℕ) (from : ℕ) (p : PlainLin
   pub col_is : p.col ≡ capped (number second)
   pub reads : is_integer_field f ≡ true → ReadsInteger (word values 0) (Some p.value)
 
--- the line that begins here is one word, this integer
-pub record IsPlainValue (bytes : List ℕ) (from : ℕ) (p : PlainValue) : Type 0 where
-  pub line : List ℕ
-  pub whole : IsWholeLine bytes from p.next line
+-- the line is one word, this integer
+pub record SaysValue (p : PlainValue) (line : List ℕ) : Type 0 where
   pub word : Word
   pub words_are : words line ≡ word ∷ []
   pub reads : ReadsInteger word (Some p.value)

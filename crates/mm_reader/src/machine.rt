@@ -4,6 +4,8 @@ ghost use Rattle.std.specs.Prelude.{◌≡◌, ◌≤◌, ◌<◌, ◌*◌, ◌+
 ghost use Rattle.sp_ids.specs.Entries.{Entries};
 ghost use Rattle.sp_ids.specs.Limits.{max_entry_lines, max_value};
 ghost use Rattle.mm_defs.specs.Words.{is_skipped, words};
+ghost use Rattle.mm_defs.specs.declared.header.Format.{Format};
+ghost use Rattle.mm_defs.specs.declared.header.Header.{Header};
 ghost use Rattle.mm_defs.specs.Header.{is_general, is_integer_field};
 ghost use Rattle.mm_defs.specs.File.{Reads, mirror, placed, with_mirrors, line_faults, later_lines};
 ghost use Rattle.mm_reader.specs.Lines.{IsLine};
@@ -12,7 +14,7 @@ ghost use Rattle.mm_reader.specs.Judged.{Fits, IsHeader, triple_of};
 ghost use Rattle.mm_reader.specs.Machine.{HasBanner, HasLines, HasRoom, IsReady, Steps, StopsAt, TakesLine, is_complete};
 ghost use Rattle.mm_reader.specs.Stages.{begun_lines, ClosesWhole, HasOpenLine, IsBetween, IsAfter, IsAll, GoesOn, Halts, Lacks, StopsIn, StopsWithin, StopsAtEnd, TakesPiece};
 ghost use Rattle.mm_reader.specs.Additions.{with_entries};
-ghost use Rattle.mm_reader.specs.Plain.{AwaitsPlain, IsPlainLine, IsPlainValue};
+ghost use Rattle.mm_reader.specs.Plain.{AwaitsPlain, IsUsual, SaysEntry, SaysValue};
 ghost use Rattle.mm_reader.specs.ArrayPlaces.{place_of};
 
 use crate::array::{ArrayPlace, first_place, following};
@@ -421,54 +423,108 @@ fn awaits_plain(m: &Machine) -> Option<(Preamble, Position)>
     }
 }
 
-/// An entry line of the usual form has come. It gives the position behind it.
-fn after_plain(
-    preamble: Preamble,
-    at: Position,
-    plain: PlainLine,
-    number: u64,
-    triples: &mut Triples,
-) -> Result<Position, Stop>
-    requires room { HasRoom preamble at triples.old }
-    requires low { at.done < preamble.size.count }
-    requires format { preamble.header.format ≡ Format.Coordinate }
-    ensures steps { (end : End) (piece : List ℕ) (from : ℕ)
-        (p : IsPlainLine preamble.header.field piece from plain)
-        → TakesLine preamble at triples.old number end p.line triples.new result }
-    ensures ready { IfOk result (λ next. HasRoom preamble next triples.new) }
-    ensures done { IfOk result (λ next. next.done ≡ at.done + 1) }
-{
-    match judge_place(
-        preamble.header,
-        preamble.size,
-        plain.row,
-        plain.col,
-        Some(plain.value),
-    ) {
-        Err(kind) => Err(Stop::Bad(BadLine { line: number, kind })),
-        Ok(entry) => keep_entry(preamble, at, entry, triples),
+/// What a line of the usual form says that lies whole in a piece.
+trait UsualLine: Copy {
+    /// The format of the files that have such lines.
+    ghost format: { Format };
+
+    /// A line with these bytes says this, in a file with this header.
+    ghost says: { Header → Self → List ℕ → Type 0 };
+
+    /// Where the line behind it begins.
+    ghost next: { Self → ℕ };
+
+    /// The line that begins here, if it is of the usual form and lies whole in the piece.
+    fn find(header: Header, piece: &[u8], from: usize) -> Option<Self>
+        requires { from ≤ length piece.now }
+        ensures { IfSome result (λ line. IsUsual (says header line) piece.now from (next line)) };
+
+    /// Where the line behind it begins.
+    fn next(&self) -> usize
+        ensures { result ≡ next self.now };
+
+    /// The line of this number has come. It gives the position behind it.
+    fn keep(
+        self,
+        preamble: Preamble,
+        at: Position,
+        number: u64,
+        triples: &mut Triples,
+    ) -> Result<Position, Stop>
+        requires room { HasRoom preamble at triples.old }
+        requires low { at.done < preamble.size.count }
+        requires format { preamble.header.format ≡ format }
+        ensures steps { (end : End) (bytes : List ℕ) → says preamble.header self bytes
+            → TakesLine preamble at triples.old number end bytes triples.new result }
+        ensures ready { IfOk result (λ next. HasRoom preamble next triples.new) }
+        ensures done { IfOk result (λ next. next.done ≡ at.done + 1) };
+}
+
+impl UsualLine for PlainLine {
+    ghost format = { Format.Coordinate };
+
+    ghost says = { λ header line bytes. SaysEntry header.field line bytes };
+
+    ghost next = { λ line. line.next };
+
+    #[inline(always)]
+    fn find(header: Header, piece: &[u8], from: usize) -> Option<PlainLine> {
+        plain_line(piece, from, header.field)
+    }
+
+    #[inline(always)]
+    fn next(&self) -> usize {
+        self.next
+    }
+
+    fn keep(
+        self,
+        preamble: Preamble,
+        at: Position,
+        number: u64,
+        triples: &mut Triples,
+    ) -> Result<Position, Stop> {
+        match judge_place(
+            preamble.header,
+            preamble.size,
+            self.row,
+            self.col,
+            Some(self.value),
+        ) {
+            Err(kind) => Err(Stop::Bad(BadLine { line: number, kind })),
+            Ok(entry) => keep_entry(preamble, at, entry, triples),
+        }
     }
 }
 
-/// A value line of the usual form has come. It gives the position behind it.
-fn after_plain_value(
-    preamble: Preamble,
-    at: Position,
-    plain: PlainValue,
-    number: u64,
-    triples: &mut Triples,
-) -> Result<Position, Stop>
-    requires room { HasRoom preamble at triples.old }
-    requires low { at.done < preamble.size.count }
-    requires format { preamble.header.format ≡ Format.Array }
-    ensures steps { (end : End) (piece : List ℕ) (from : ℕ) (p : IsPlainValue piece from plain)
-        → TakesLine preamble at triples.old number end p.line triples.new result }
-    ensures ready { IfOk result (λ next. HasRoom preamble next triples.new) }
-    ensures done { IfOk result (λ next. next.done ≡ at.done + 1) }
-{
-    match judge_integer(Some(plain.value)) {
-        Err(kind) => Err(Stop::Bad(BadLine { line: number, kind })),
-        Ok(value) => keep_value(preamble, at, value, triples),
+impl UsualLine for PlainValue {
+    ghost format = { Format.Array };
+
+    ghost says = { λ header line bytes. SaysValue line bytes };
+
+    ghost next = { λ line. line.next };
+
+    #[inline(always)]
+    fn find(_header: Header, piece: &[u8], from: usize) -> Option<PlainValue> {
+        plain_value(piece, from)
+    }
+
+    #[inline(always)]
+    fn next(&self) -> usize {
+        self.next
+    }
+
+    fn keep(
+        self,
+        preamble: Preamble,
+        at: Position,
+        number: u64,
+        triples: &mut Triples,
+    ) -> Result<Position, Stop> {
+        match judge_integer(Some(self.value)) {
+            Err(kind) => Err(Stop::Bad(BadLine { line: number, kind })),
+            Ok(value) => keep_value(preamble, at, value, triples),
+        }
     }
 }
 
@@ -485,14 +541,14 @@ fn take_plain(m: &mut Machine, piece: &[u8], at: usize) -> Result<usize, Stop>
     match awaits_plain(m) {
         None => Ok(at),
         Some((preamble, position)) => match preamble.header.format {
-            Format::Coordinate => take_entries(preamble, position, m, piece, at),
-            Format::Array => take_values(preamble, position, m, piece, at),
+            Format::Coordinate => take_lines::<PlainLine>(preamble, position, m, piece, at),
+            Format::Array => take_lines::<PlainValue>(preamble, position, m, piece, at),
         },
     }
 }
 
-/// Takes the entry lines of the usual form that begin here.
-fn take_entries(
+/// Takes the lines of this form that begin here.
+fn take_lines<L: UsualLine>(
     preamble: Preamble,
     before: Position,
     m: &mut Machine,
@@ -500,7 +556,7 @@ fn take_entries(
     at: usize,
 ) -> Result<usize, Stop>
     requires awaits { AwaitsPlain m.old preamble before }
-    requires format { preamble.header.format ≡ Format.Coordinate }
+    requires format { preamble.header.format ≡ L.format }
     requires place { at ≤ length piece.now }
     requires ready { IsReady m.old.phase m.old.triples }
     requires room { begun_lines m.old + (length piece.now - at) < 2 ^ 64 }
@@ -511,50 +567,14 @@ fn take_entries(
     let mut position = before;
     let mut next = at;
     while position.done < preamble.size.count {
-        let plain = match plain_line(piece, next, preamble.header.field) {
+        let line = match L::find(preamble.header, piece, next) {
             None => break,
-            Some(plain) => plain,
+            Some(line) => line,
         };
         let number = m.number + 1;
-        position = after_plain(preamble, position, plain, number, &mut m.triples)?;
+        position = line.keep(preamble, position, number, &mut m.triples)?;
         m.number = number;
-        next = plain.next;
-    }
-    m.phase = Phase::Entries {
-        preamble,
-        at: position,
-    };
-    Ok(next)
-}
-
-/// Takes the value lines of the usual form that begin here.
-fn take_values(
-    preamble: Preamble,
-    before: Position,
-    m: &mut Machine,
-    piece: &[u8],
-    at: usize,
-) -> Result<usize, Stop>
-    requires awaits { AwaitsPlain m.old preamble before }
-    requires format { preamble.header.format ≡ Format.Array }
-    requires place { at ≤ length piece.now }
-    requires ready { IsReady m.old.phase m.old.triples }
-    requires room { begun_lines m.old + (length piece.now - at) < 2 ^ 64 }
-    ensures ok { IfOk result (GoesOn m.old m.new piece.now at) }
-    ensures same { IfOk result (λ next. next ≡ at → m.new ≡ m.old) }
-    ensures err { IfErr result (Halts m.old piece.now at) }
-{
-    let mut position = before;
-    let mut next = at;
-    while position.done < preamble.size.count {
-        let plain = match plain_value(piece, next) {
-            None => break,
-            Some(plain) => plain,
-        };
-        let number = m.number + 1;
-        position = after_plain_value(preamble, position, plain, number, &mut m.triples)?;
-        m.number = number;
-        next = plain.next;
+        next = line.next();
     }
     m.phase = Phase::Entries {
         preamble,

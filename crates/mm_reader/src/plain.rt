@@ -2,7 +2,7 @@
 //! signs and the value words, and value lines of one integer.
 
 ghost use Rattle.std.specs.Prelude.{◌≡◌, ◌≤◌, length, IfSome};
-ghost use Rattle.mm_reader.specs.Plain.{is_visible, IsRun, IsSign, IsNextWord, IsIntegerHere, IsNextInteger, IsNextLine, HasValues, IsPlainLine, IsPlainValue};
+ghost use Rattle.mm_reader.specs.Plain.{is_visible, IsRun, IsSign, IsNextWord, IsIntegerHere, IsNextInteger, IsNextLine, HasValues, IsUsual, SaysEntry, SaysValue};
 
 use crate::line::is_blank;
 use crate::number::Integer;
@@ -162,7 +162,7 @@ fn next_line(bytes: &[u8], from: usize) -> Option<usize>
 /// without signs, and the value words of the field.
 pub fn plain_line(bytes: &[u8], from: usize, field: Field) -> Option<PlainLine>
     requires { from ≤ length bytes.now }
-    ensures { IfSome result (IsPlainLine field bytes.now from) }
+    ensures { IfSome result (λ p. IsUsual (SaysEntry field p) bytes.now from p.next) }
 {
     let Place { row, col, end } = match place_at(bytes, from) {
         None => return None,
@@ -181,7 +181,7 @@ pub fn plain_line(bytes: &[u8], from: usize, field: Field) -> Option<PlainLine>
 /// The value line of the usual form that begins here, if it lies whole in these bytes: one integer.
 pub fn plain_value(bytes: &[u8], from: usize) -> Option<PlainValue>
     requires { from ≤ length bytes.now }
-    ensures { IfSome result (IsPlainValue bytes.now from) }
+    ensures { IfSome result (λ p. IsUsual (SaysValue p) bytes.now from p.next) }
 {
     let start = blanks(bytes, from);
     let (value, end) = integer_at(bytes, start)?;

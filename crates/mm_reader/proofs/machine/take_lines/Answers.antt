@@ -6,10 +6,10 @@ use Rattle.mm_reader.specs.declared.machine.Phase.TheVariants as phases
 use Rattle.mm_reader.specs.Plain.{AwaitsPlain}
 use Rattle.mm_reader.specs.Stages.{GoesOn}
 use Rattle.mm_reader.proofs.PlainSteps.{stays, plain_goes, plain_halts, open_entries, goes_then, halts_then}
-use Rattle.mm_reader.proofs.machine.take_values.Goals as goal
+use Rattle.mm_reader.proofs.machine.take_lines.Goals as goal
 
 pub loop-position-init : goal.loop-position-init
-loop-position-init c =
+loop-position-init g c =
     let m = c.args.m.now in
     record {
       closed = c.requires.awaits.closed;
@@ -18,7 +18,7 @@ loop-position-init c =
     }
 
 pub returns-in_err-position-clause-err : goal.returns-in_err-position-clause-err
-returns-in_err-position-clause-err c =
+returns-in_err-position-clause-err g c =
     let i = c.loop-position.invariant in
     let p = c.in-Some.ensures in
     let position = c.loop-position.position in
@@ -27,12 +27,12 @@ returns-in_err-position-clause-err c =
     let e = err_from_is_err_and c.from_residual.result c.from_residual.ensures.1 in
     rw (e.1, e.2)
     (halts_then c.args.m.now m c.args.piece.now c.args.at c.loop-position.next c.in_err-position.field-0.0 i.goes
-    (plain_halts m _ _ w c.args.piece.now c.loop-position.next _ p.line p.whole c.after_plain_value.new.triples c.in_err-position.field-0.0
-    (λ end ls b has good n. c.in_err-position.ensures.steps end c.args.piece.now c.loop-position.next p ls b has good n))
+    (plain_halts m _ _ w c.args.piece.now c.loop-position.next _ p.line p.whole c.keep.new.triples c.in_err-position.field-0.0
+    (λ end ls b has good n. c.in_err-position.ensures.steps end p.line p.says ls b has good n))
     (λ end. open_entries end c.args.preamble position c.loop-position-test.true))
 
 pub loop-position-preserved : goal.loop-position-preserved
-loop-position-preserved c =
+loop-position-preserved g c =
     let i = c.loop-position.invariant in
     let p = c.in-Some.ensures in
     let position = c.loop-position.position in
@@ -40,9 +40,9 @@ loop-position-preserved c =
     let w : AwaitsPlain m c.args.preamble position = record { phase_is = refl; closed = i.closed } in
     record {
       closed = i.closed;
-      goes = goes_then c.args.m.now m _ c.args.piece.now c.args.at c.loop-position.next _ i.goes
-          (plain_goes m _ _ w c.args.piece.now c.loop-position.next _ p.line p.whole c.after_plain_value.new.triples c.in_ok-position.position c.in_ok-position.ensures.ready
-          (λ end ls b has good n. c.in_ok-position.ensures.steps end c.args.piece.now c.loop-position.next p ls b has good n))
-          (λ end. open_entries end c.args.preamble position c.loop-position-test.true);
-      same = λ e. absurd (omega (arith, p.whole.in_order, i.goes.in_order));
+      goes = rw c.next-next.ensures (goes_then c.args.m.now m _ c.args.piece.now c.args.at c.loop-position.next _ i.goes
+          (plain_goes m _ _ w c.args.piece.now c.loop-position.next _ p.line p.whole c.keep.new.triples c.in_ok-position.position c.in_ok-position.ensures.ready
+          (λ end ls b has good n. c.in_ok-position.ensures.steps end p.line p.says ls b has good n))
+          (λ end. open_entries end c.args.preamble position c.loop-position-test.true));
+      same = λ e. absurd (omega (arith, c.next-next.ensures, p.whole.in_order, i.goes.in_order));
     }
