@@ -14,8 +14,8 @@ use Rattle.bip_defs.proofs.Sets.{among_last, among_left, among_right, among_test
 use Rattle.least_match.specs.Classes.{AreClasses, HaveParts, IsOther, IsInTail, IsSplit, class_of, number_of_part}
 use Rattle.least_match.specs.Extensions.{Excludes, Extends}
 use Rattle.least_match.specs.Outcomes.{AreParted, IsIn}
-use Rattle.least_match.specs.declared.parts.Part.{Part}
-use Rattle.least_match.specs.declared.parts.Part.TheVariants.{Horizontal, Square, Vertical}
+use Rattle.least_match.specs.declared.parts.ColPart.{ColPart}
+use Rattle.least_match.specs.declared.parts.ColPart.TheVariants.{Horizontal, Square, Vertical}
 use Rattle.least_match.specs.Trees.{IsScanned, IsScannedBack, IsTree}
 use Rattle.least_match.proofs.ExtensionLemmas.{extends_itself, extends_less}
 
@@ -219,7 +219,7 @@ part_same : (a : Matrix) (n o : List Place) (r c d : ℕ) → IsMaximum a n → 
 part_same a n o r c d x y p q = (λ h. horizontal_mate a o r d y (c, h, x.matching.entries r c p) q, λ v none. vertical_mate a n r c x v p (λ w. none (r, w, y.matching.entries r d q)))
 
 -- the number of a part, by the part in which the column is
-numbered : (a : Matrix) (c d : ℕ) (p q : Part) → IsIn a c p → IsIn a d q → (IsHorizontalCol a c → ¬ ¬ IsHorizontalCol a d) × (IsVerticalCol a c → ¬ ¬ IsVerticalCol a d) → (IsHorizontalCol a d → ¬ ¬ IsHorizontalCol a c) × (IsVerticalCol a d → ¬ ¬ IsVerticalCol a c) → number_of_part p ≡ number_of_part q
+numbered : (a : Matrix) (c d : ℕ) (p q : ColPart) → IsIn a c p → IsIn a d q → (IsHorizontalCol a c → ¬ ¬ IsHorizontalCol a d) × (IsVerticalCol a c → ¬ ¬ IsVerticalCol a d) → (IsHorizontalCol a d → ¬ ¬ IsHorizontalCol a c) × (IsVerticalCol a d → ¬ ¬ IsVerticalCol a c) → number_of_part p ≡ number_of_part q
 numbered a c d Horizontal Horizontal h k f g = refl
 numbered a c d Horizontal Square h k f g = absurd (f.0 h k.0)
 numbered a c d Horizontal Vertical h k f g = absurd (f.0 h (λ z. cols_apart a d z k))
@@ -230,13 +230,13 @@ numbered a c d Vertical Horizontal h k f g = absurd (g.0 k (λ z. cols_apart a c
 numbered a c d Vertical Square h k f g = absurd (f.1 h k.1)
 numbered a c d Vertical Vertical h k f g = refl
 
-number_small : (p : Part) → number_of_part p < 3
+number_small : (p : ColPart) → number_of_part p < 3
 number_small Horizontal = omega arith
 number_small Square = omega arith
 number_small Vertical = omega arith
 
 -- columns of parts of one number are of one part
-same_part : (a : Matrix) (c d : ℕ) (p q : Part) → IsIn a c p → IsIn a d q → number_of_part p ≡ number_of_part q → (IsHorizontalCol a c → IsHorizontalCol a d) × (IsVerticalCol a c → IsVerticalCol a d)
+same_part : (a : Matrix) (c d : ℕ) (p q : ColPart) → IsIn a c p → IsIn a d q → number_of_part p ≡ number_of_part q → (IsHorizontalCol a c → IsHorizontalCol a d) × (IsVerticalCol a c → IsVerticalCol a d)
 same_part a c d Horizontal Horizontal h k e = (λ z. k, λ v. absurd (cols_apart a c h v))
 same_part a c d Horizontal Square h k e = absurd (omega (arith, e))
 same_part a c d Horizontal Vertical h k e = absurd (omega (arith, e))
@@ -247,7 +247,7 @@ same_part a c d Vertical Horizontal h k e = absurd (omega (arith, e))
 same_part a c d Vertical Square h k e = absurd (omega (arith, e))
 same_part a c d Vertical Vertical h k e = (λ z. absurd (cols_apart a c z h), λ z. k)
 
-pub first_classes : (a : Matrix) (m : List Place) (parts : List Part) (classes : List ℕ) → IsMaximum a m → AreParted a parts → HaveParts parts (length parts) classes → AreClasses a m 0 classes 3
+pub first_classes : (a : Matrix) (m : List Place) (parts : List ColPart) (classes : List ℕ) → IsMaximum a m → AreParted a parts → HaveParts parts (length parts) classes → AreClasses a m 0 classes 3
 first_classes a m parts classes max parted has = record {
   long = has.long ∙ parted.long;
   below = λ c lt. rw (is_number c lt) (number_small (slice_index_or parts c Square));
@@ -270,7 +270,7 @@ first_classes a m parts classes max parted has = record {
     row_class : ℕ → ℕ
     row_class r = row_class_by r (number_among r (rows_of m))
 
-    vertical_number : (c : ℕ) (p : Part) → IsIn a c p → IsVerticalCol a c → number_of_part p ≡ 2
+    vertical_number : (c : ℕ) (p : ColPart) → IsIn a c p → IsVerticalCol a c → number_of_part p ≡ 2
     vertical_number c Horizontal h v = absurd (cols_apart a c h v)
     vertical_number c Square h v = absurd (h.1 v)
     vertical_number c Vertical h v = refl

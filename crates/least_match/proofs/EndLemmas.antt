@@ -15,25 +15,25 @@ use Rattle.least_match.specs.Extensions.{Excludes, Extends, HasAt}
 use Rattle.least_match.specs.Outcomes.{AreParted, AreScanned, AreScannedBack, BackwardDecides, ForwardDecides, IsIn}
 use Rattle.least_match.specs.Ready.{IsReady}
 use Rattle.least_match.specs.Trees.{AreSearchTrees, IsTree}
-use Rattle.least_match.specs.declared.classes.Classes.{Classes}
+use Rattle.least_match.specs.declared.classes.ColClasses.{ColClasses}
 use Rattle.least_match.specs.declared.exchanges.Exchanges.{Exchanges}
-use Rattle.least_match.specs.declared.parts.Part.{Part}
-use Rattle.least_match.specs.declared.parts.Part.TheVariants.{Horizontal, Square, Vertical}
+use Rattle.least_match.specs.declared.parts.ColPart.{ColPart}
+use Rattle.least_match.specs.declared.parts.ColPart.TheVariants.{Horizontal, Square, Vertical}
 use Rattle.least_match.proofs.ClassLemmas.{IsTight, backward_cols, backward_rows, classes_more, forward_cols, forward_rows, split_classes, tight_excluded, tight_excluded_back}
 
 -- a tree that decides in the column's part
-pub forward_inner : (a : Matrix) (j : ℕ) (p : Part) → IsIn a j p → ForwardDecides p → ¬ IsHorizontalCol a j
+pub forward_inner : (a : Matrix) (j : ℕ) (p : ColPart) → IsIn a j p → ForwardDecides p → ¬ IsHorizontalCol a j
 forward_inner a j Horizontal h decides = absurd decides
 forward_inner a j Square h decides = h.0
 forward_inner a j Vertical h decides = λ z. cols_apart a j z h
 
-pub backward_inner : (a : Matrix) (j : ℕ) (p : Part) → IsIn a j p → BackwardDecides p → ¬ IsVerticalCol a j
+pub backward_inner : (a : Matrix) (j : ℕ) (p : ColPart) → IsIn a j p → BackwardDecides p → ¬ IsVerticalCol a j
 backward_inner a j Horizontal h decides = cols_apart a j h
 backward_inner a j Square h decides = h.1
 backward_inner a j Vertical h decides = absurd decides
 
 -- the part that was read
-pub part_at : (a : Matrix) (parts : List Part) (j : ℕ) (p : Part) → AreParted a parts → j < cols a → p ≡ get_or parts j p → IsIn a j p
+pub part_at : (a : Matrix) (parts : List ColPart) (j : ℕ) (p : ColPart) → AreParted a parts → j < cols a → p ≡ get_or parts j p → IsIn a j p
 part_at a parts j p k lt e = subst (IsIn a j) (sym (get_or_read parts j p (omega (arith, k.long)) e Square)) (k.each j lt)
 
 module _ (a : Matrix) (m : List Place) (j d r : ℕ) (classes : List ℕ) (count : ℕ) (f b : Queue) (k : AreClasses a m j classes count) (max : IsMaximum a m) (lt : j < cols a) (t : AreSearchTrees a m classes j d f b) (mate : Among (r, d) m) where
@@ -96,8 +96,8 @@ pub root_frees : {a : Matrix} {m n : List Place} {classes : List ℕ} {j d r : �
 root_frees {m = m} {r = r} t frees mate = frees r (subst (λ x. Among {X = Place} (r, x) m) (sym t.forward_tree.root) mate)
 
 -- classes of which one was split off, or none where no number was left
-pub split_or_not : {a : Matrix} {m : List Place} {j : ℕ} {old new : Classes} {xs : List ℕ} → AreClasses a m j old.numbers.items old.count → (IsSplit old.numbers.items old.count xs new.numbers.items → AreClasses a m j new.numbers.items (old.count + 1)) → (new ≡ old) ⊎ (IsSplit old.numbers.items old.count xs new.numbers.items × (new.count ≡ old.count + 1)) → AreClasses a m j new.numbers.items new.count
-split_or_not {a = a} {m = m} {j = j} k split (inl e) = subst (λ (z : Classes). AreClasses a m j z.numbers.items z.count) (sym e) k
+pub split_or_not : {a : Matrix} {m : List Place} {j : ℕ} {old new : ColClasses} {xs : List ℕ} → AreClasses a m j old.numbers.items old.count → (IsSplit old.numbers.items old.count xs new.numbers.items → AreClasses a m j new.numbers.items (old.count + 1)) → (new ≡ old) ⊎ (IsSplit old.numbers.items old.count xs new.numbers.items × (new.count ≡ old.count + 1)) → AreClasses a m j new.numbers.items new.count
+split_or_not {a = a} {m = m} {j = j} k split (inl e) = subst (λ (z : ColClasses). AreClasses a m j z.numbers.items z.count) (sym e) k
 split_or_not {a = a} {m = m} {j = j} {new = new} k split (inr s) = subst (AreClasses a m j new.numbers.items) (sym s.1) (split s.0)
 
 -- A maximum matching as contracts see it.

@@ -8,22 +8,22 @@ use Rattle.bip_defs.specs.Matrix.{IsEntry, Matrix, cols}
 use Rattle.bip_defs.specs.Parts.{IsHorizontalCol, IsVerticalCol, IsVerticalRow}
 use Rattle.bip_defs.proofs.Sets.{among_last, among_left, among_right, number_among, number_same}
 use Rattle.least_match.specs.Outcomes.{AreParted, IsGiven, IsIn}
-use Rattle.least_match.specs.declared.parts.Part.{Part}
-use Rattle.least_match.specs.declared.parts.Part.TheVariants.{Horizontal, Square, Vertical}
+use Rattle.least_match.specs.declared.parts.ColPart.{ColPart}
+use Rattle.least_match.specs.declared.parts.ColPart.TheVariants.{Horizontal, Square, Vertical}
 
 -- a column none of whose rows is vertical
 pub not_vertical : (a : Matrix) (c k : ℕ) (rows : List ℕ) (marks : List Bool) → Marks a.rows (IsVerticalRow a) marks → Lists (λ r. IsEntry a r c) rows → ((r : ℕ) → Among r (take k rows) → ¬ IsMarked marks r) → length rows ≤ k → ¬ IsVerticalCol a c
 not_vertical a c k rows marks m listed none all v = none v.0 (subst (Among v.0) (sym (take_all k rows all)) (listed.complete v.0 v.2)) ((m.exact v.0 v.2.0).1 v.1)
 
 -- the parts of the columns below n
-pub record ArePartedBelow (a : Matrix) (n : ℕ) (parts : List Part) : Type 0 where
+pub record ArePartedBelow (a : Matrix) (n : ℕ) (parts : List ColPart) : Type 0 where
   pub long : length parts ≡ n
   pub each : (c : ℕ) → c < n → IsIn a c (get_or parts c Square)
 
-pub parted_more : (a : Matrix) (n : ℕ) (parts : List Part) (p : Part) → ArePartedBelow a n parts → IsIn a n p → ArePartedBelow a (n + 1) (parts ++ p ∷ [])
+pub parted_more : (a : Matrix) (n : ℕ) (parts : List ColPart) (p : ColPart) → ArePartedBelow a n parts → IsIn a n p → ArePartedBelow a (n + 1) (parts ++ p ∷ [])
 parted_more a n parts p k is = record { long = length-append parts (p ∷ []) ∙ ap (λ x. x + 1) k.long; each = λ c lt. by c lt (dec_lt c n) }
   where
-    last : (ps : List Part) → get_or (ps ++ p ∷ []) (length ps) Square ≡ p
+    last : (ps : List ColPart) → get_or (ps ++ p ∷ []) (length ps) Square ≡ p
     last [] = refl
     last (x ∷ ps) = last ps
 
@@ -35,7 +35,7 @@ parted_more a n parts p k is = record { long = length-append parts (p ∷ []) �
 
 -- Parts by their lists.
 
-pub given_more : (old cur : List Part) (xs : List ℕ) (p : Part) (k x : ℕ) → IsGiven old p (take k xs) cur → k < length xs → get_or xs k 0 ≡ x → x < length old → IsGiven old p (take (k + 1) xs) (set cur x p)
+pub given_more : (old cur : List ColPart) (xs : List ℕ) (p : ColPart) (k x : ℕ) → IsGiven old p (take k xs) cur → k < length xs → get_or xs k 0 ≡ x → x < length old → IsGiven old p (take (k + 1) xs) (set cur x p)
 given_more old cur xs p k x g lt e within = record {
   long = length-set cur x p ∙ g.long;
   given = λ c h. ⊎_elim (λ (f : c ≡ x). ap (λ y. get_or (set cur x p) y Square) f ∙ get_or-set_same cur x p Square (omega (arith, g.long))) (λ ne. get_or-set_other cur x c p Square ne ∙ g.given c (⊎_elim (λ i. i) (λ i. absurd (ne (i ∙ e))) (is_old c h))) (number_same c x);
@@ -49,14 +49,14 @@ given_more old cur xs p k x g lt e within = record {
     back c g = subst (Among c) (sym (take_more xs k 0 lt)) (⊎_elim (λ h. among_left c (take k xs) (get_or xs k 0 ∷ []) h) (λ h. among_right c (take k xs) (get_or xs k 0 ∷ []) (inl h)) g)
 
 -- the square part for all, the horizontal part for its columns, then the vertical part for its own
-pub parted_by_lists : (a : Matrix) (hs vs : List ℕ) (first second third : List Part) → Lists (IsHorizontalCol a) hs → Lists (IsVerticalCol a) vs → first ≡ replicate (cols a) Square → IsGiven first Horizontal hs second → IsGiven second Vertical vs third → AreParted a third
+pub parted_by_lists : (a : Matrix) (hs vs : List ℕ) (first second third : List ColPart) → Lists (IsHorizontalCol a) hs → Lists (IsVerticalCol a) vs → first ≡ replicate (cols a) Square → IsGiven first Horizontal hs second → IsGiven second Vertical vs third → AreParted a third
 parted_by_lists a hs vs first second third h v start g f = record {
-  long = f.long ∙ g.long ∙ ap (λ (z : List Part). length z) start ∙ length-replicate {A = Part} (cols a) Square;
+  long = f.long ∙ g.long ∙ ap (λ (z : List ColPart). length z) start ∙ length-replicate {A = ColPart} (cols a) Square;
   each = λ c lt. by c (number_among c vs) (number_among c hs);
 }
   where
     square : (c : ℕ) → get_or first c Square ≡ Square
-    square c = subst (λ (z : List Part). get_or z c Square ≡ Square) (sym start) (repeated (cols a) c)
+    square c = subst (λ (z : List ColPart). get_or z c Square ≡ Square) (sym start) (repeated (cols a) c)
       where
         repeated : (n c : ℕ) → get_or (replicate n Square) c Square ≡ Square
         repeated zero c = refl

@@ -4,8 +4,8 @@ use Rattle.bip_defs.specs.Lists.{Among}
 use Rattle.bip_defs.specs.Matrix.{Matrix, Place, cols}
 use Rattle.bip_defs.specs.Parts.{IsHorizontalCol, IsVerticalCol}
 use Rattle.least_match.specs.Extensions.{Extends}
-use Rattle.least_match.specs.declared.parts.Part.{Part}
-use Rattle.least_match.specs.declared.parts.Part.TheVariants.{Horizontal, Square, Vertical}
+use Rattle.least_match.specs.declared.parts.ColPart.{ColPart}
+use Rattle.least_match.specs.declared.parts.ColPart.TheVariants.{Horizontal, Square, Vertical}
 
 abbrev pub class_of : List ℕ → ℕ → ℕ
 class_of classes c = slice_index_or classes c 0
@@ -41,12 +41,12 @@ pub record IsSplit (old : List ℕ) (count : ℕ) (xs : List ℕ) (new : List �
   pub kept : (c : ℕ) → ¬ Among c xs → class_of new c ≡ class_of old c
 
 -- the number of the part's first class
-abbrev pub number_of_part : Part → ℕ
+abbrev pub number_of_part : ColPart → ℕ
 number_of_part Horizontal = 0
 number_of_part Square = 1
 number_of_part Vertical = 2
 
 -- the first n columns have the numbers of their parts
-pub record HaveParts (parts : List Part) (n : ℕ) (classes : List ℕ) : Type 0 where
+pub record HaveParts (parts : List ColPart) (n : ℕ) (classes : List ℕ) : Type 0 where
   pub long : length classes ≡ n
   pub each : (c : ℕ) → c < n → class_of classes c ≡ number_of_part (slice_index_or parts c Square)

@@ -4,8 +4,9 @@ use Rattle.bip_defs.specs.Lists.{Among, AreDistinct}
 use Rattle.bip_defs.specs.Matching.{IsMatching, cols_of, rows_of}
 use Rattle.bip_defs.specs.Matrix.{IsEntry, Matrix, Place, cols}
 use Rattle.bip_defs.specs.Queues.{Queue, at, heads}
+use Rattle.bip_graph.specs.Matching.{Pairing}
 use Rattle.least_match.specs.Extensions.{AgreeBelow}
-use Rattle.least_match.specs.Trees.{LeadsTo}
+use Rattle.least_match.specs.Trees.{IsLedTo, LeadsBack, LeadsTo}
 use Rattle.least_match.specs.declared.exchange.Meeting.{Meeting}
 use Rattle.least_match.specs.declared.exchange.Meeting.TheVariants.{FreeCol, FreeRow, Trees}
 
@@ -18,6 +19,19 @@ pub record IsMatchedTree (m : List Place) (q : Queue) : Type 0 where
 -- columns outside the tree have the same pairs
 abbrev pub AgreeBeside : Queue → List Place → List Place → Type 0
 AgreeBeside q m n = (r c : ℕ) → ¬ Among c (heads q) → Among (r, c) m ↔ Among (r, c) n
+
+-- for a matrix of as many rows and columns
+abbrev pub HaveSameSizes : Pairing → Pairing → Type 0
+HaveSameSizes m n = (n.rows ≡ m.rows) × (n.cols ≡ m.cols)
+
+-- a matching of entries stays one where each column leads to its parent
+abbrev pub KeepsEntriesBack : Queue → List Place → List Place → Type 0
+KeepsEntriesBack q m n = (a : Matrix) → IsMatching a m → LeadsBack a m q → IsMatching a n
+
+-- a matching of entries stays one where each column is led to by its parent, and the column at the place has an entry in the row
+abbrev pub KeepsEntriesBy : ℕ → ℕ → Queue → List Place → List Place → Type 0
+KeepsEntriesBy row place q m n = (a : Matrix) → IsMatching a m → IsLedTo a m q → IsEntry a row (at q place).0
+    → IsMatching a n
 
 -- the column gets an unmatched row in place of its own
 abbrev pub Swaps : Place → ℕ → List Place → List Place → Type 0

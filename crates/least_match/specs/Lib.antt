@@ -4,5 +4,6 @@ pub mod Exchanges
 pub mod Extensions
 pub mod Outcomes
 pub mod Ready
+pub mod Searches
 pub mod Tree
 pub mod Trees

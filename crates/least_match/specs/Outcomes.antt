@@ -6,44 +6,44 @@ use Rattle.bip_defs.specs.Parts.{IsHorizontalCol, IsVerticalCol}
 use Rattle.bip_defs.specs.Queues.{Queue, at}
 use Rattle.least_match.specs.Exchanges.{Meets}
 use Rattle.least_match.specs.Trees.{IsScanned, IsScannedBack}
-use Rattle.least_match.specs.declared.parts.Part.{Part}
-use Rattle.least_match.specs.declared.parts.Part.TheVariants.{Horizontal, Square, Vertical}
+use Rattle.least_match.specs.declared.parts.ColPart.{ColPart}
+use Rattle.least_match.specs.declared.parts.ColPart.TheVariants.{Horizontal, Square, Vertical}
 use Rattle.least_match.specs.declared.search.Outcome.{Outcome}
 use Rattle.least_match.specs.declared.search.Outcome.TheVariants.{BackwardEnds, ForwardEnds, Path}
 use Rattle.least_match.specs.declared.search.Turn.{Turn}
 use Rattle.least_match.specs.declared.search.Turn.TheVariants.{EndBackward, EndForward, GrowBackward, GrowForward}
 
 -- the column lies in the part
-abbrev pub IsIn : Matrix → ℕ → Part → Type 0
+abbrev pub IsIn : Matrix → ℕ → ColPart → Type 0
 IsIn a c Horizontal = IsHorizontalCol a c
 IsIn a c Vertical = IsVerticalCol a c
 IsIn a c Square = (¬ IsHorizontalCol a c) × (¬ IsVerticalCol a c)
 
 -- the part of each column
-pub record AreParted (a : Matrix) (parts : List Part) : Type 0 where
+pub record AreParted (a : Matrix) (parts : List ColPart) : Type 0 where
   pub long : length parts ≡ cols a
   pub each : (c : ℕ) → c < cols a → IsIn a c (slice_index_or parts c Square)
 
 -- the columns of the list have this part, and all others have the one that they had
-pub record IsGiven (old : List Part) (part : Part) (xs : List ℕ) (new : List Part) : Type 0 where
+pub record IsGiven (old : List ColPart) (part : ColPart) (xs : List ℕ) (new : List ColPart) : Type 0 where
   pub long : length new ≡ length old
   pub given : (c : ℕ) → Among c xs → slice_index_or new c Square ≡ part
   pub kept : (c : ℕ) → ¬ Among c xs → slice_index_or new c Square ≡ slice_index_or old c Square
 
 -- the horizontal columns may be missed, so a forward tree that is complete shows nothing there
-abbrev pub ForwardDecides : Part → Type 0
+abbrev pub ForwardDecides : ColPart → Type 0
 ForwardDecides Horizontal = ⊥
 ForwardDecides Square = Unit {0}
 ForwardDecides Vertical = Unit {0}
 
 -- nor does a backward tree in the vertical part, of which rows may be missed
-abbrev pub BackwardDecides : Part → Type 0
+abbrev pub BackwardDecides : ColPart → Type 0
 BackwardDecides Horizontal = Unit {0}
 BackwardDecides Square = Unit {0}
 BackwardDecides Vertical = ⊥
 
 -- a tree ends where all of its columns were looked at and that decides, and only a tree with columns left grows
-abbrev pub IsTurn : Part → ℕ → ℕ → ℕ → ℕ → Turn → Type 0
+abbrev pub IsTurn : ColPart → ℕ → ℕ → ℕ → ℕ → Turn → Type 0
 IsTurn part forward_done forward backward_done backward EndForward = (forward_done ≡ forward)
     × ForwardDecides part
 IsTurn part forward_done forward backward_done backward EndBackward = (backward_done ≡ backward)

@@ -3,12 +3,12 @@
 ghost use Rattle.std.specs.Prelude.{◌≡◌, ℕ, ◌<◌, length, get_or, slice_index};
 ghost use Rattle.bip_defs.specs.Lists.{Among, Lists};
 ghost use Rattle.bip_defs.specs.Matching.{cols_of};
-ghost use Rattle.bip_defs.specs.Matrix.{IsEntry, cols, column, row_list};
+ghost use Rattle.bip_defs.specs.Matrix.{IsEntry, cols, column};
 ghost use Rattle.bip_defs.specs.Queues.{at};
 ghost use Rattle.bip_graph.specs.Matching.{IsMatchingOf};
 ghost use Rattle.least_match.specs.Ahead.{AreFirstCols, AreFirstRows};
 
-use crate::search::ClassTail;
+use crate::tail::ClassTail;
 use crate::tree::Tree;
 use bip_graph::Matching;
 use sp_ids::{Col, Row};

@@ -5,21 +5,21 @@ ghost use Rattle.bip_defs.specs.Lists.{Among};
 ghost use Rattle.bip_defs.specs.Queues.{heads};
 ghost use Rattle.least_match.specs.Classes.{HaveParts, IsSplit, number_of_part};
 
-use crate::parts::Part;
+use crate::parts::ColPart;
 use crate::tree::Tree;
 use sp_ids::OutOfMemory;
 use std::alloc::Global;
 
 /// The class of each column, by its number, and the first number that no class has.
 #[derive(Drop)]
-pub struct Classes {
+pub struct ColClasses {
     pub numbers: Vec<u32>,
     pub count: u32,
 }
 
-impl Classes {
+impl ColClasses {
     /// A class for each part.
-    pub fn new(alloc: Global, parts: &[Part]) -> Result<Classes, OutOfMemory>
+    pub fn new(alloc: Global, parts: &[ColPart]) -> Result<ColClasses, OutOfMemory>
         ensures parts { IfOk result (λ x. HaveParts parts.now (length parts.now) x.numbers.items) }
         ensures count { IfOk result (λ x. x.count ≡ 3) }
     {
@@ -27,7 +27,7 @@ impl Classes {
         for part in parts {
             numbers.push(number_of(*part))?;
         }
-        Ok(Classes { numbers, count: 3 })
+        Ok(ColClasses { numbers, count: 3 })
     }
 
     /// Makes a class of the columns of a tree, which have one class. Where no number is left, all
@@ -59,12 +59,12 @@ fn renumber(numbers: &mut [u32], tree: &Tree, number: u32)
 }
 
 // The number of a part's class.
-fn number_of(part: Part) -> u32
+fn number_of(part: ColPart) -> u32
     ensures { number_of_part part ≡ result }
 {
     match part {
-        Part::Horizontal => 0,
-        Part::Square => 1,
-        Part::Vertical => 2,
+        ColPart::Horizontal => 0,
+        ColPart::Square => 1,
+        ColPart::Vertical => 2,
     }
 }

@@ -2,12 +2,11 @@
 
 ghost use Rattle.std.specs.Prelude.{◌≡◌, ◌≢◌, ◌↔◌, ℕ, suc, ◌<◌, length};
 ghost use Rattle.bip_defs.specs.Lists.{Among};
-ghost use Rattle.bip_defs.specs.Matching.{IsMatching, cols_of, rows_of};
-ghost use Rattle.bip_defs.specs.Matrix.{IsEntry, Matrix, Place};
+ghost use Rattle.bip_defs.specs.Matching.{cols_of, rows_of};
+ghost use Rattle.bip_defs.specs.Matrix.{Place};
 ghost use Rattle.bip_defs.specs.Queues.{at};
 ghost use Rattle.bip_graph.specs.Matching.{IsPairing};
-ghost use Rattle.least_match.specs.Exchanges.{AgreeBeside, IsMatchedTree, Swaps};
-ghost use Rattle.least_match.specs.Trees.{IsLedTo, LeadsBack};
+ghost use Rattle.least_match.specs.Exchanges.{AgreeBeside, HaveSameSizes, IsMatchedTree, KeepsEntriesBack, KeepsEntriesBy, Swaps};
 
 use crate::tree::Tree;
 use bip_graph::Matching;
@@ -34,8 +33,7 @@ pub fn unpair_col(matching: &mut Matching, col: Col) -> Row
     ensures pairs { (p : Place) → Among p matching.new.pairs
         ↔ (Among p matching.old.pairs × (p.0 ≢ result)) }
     ensures size { length matching.old.pairs ≡ suc (length matching.new.pairs) }
-    ensures sizes { (matching.new.rows ≡ matching.old.rows)
-        × (matching.new.cols ≡ matching.old.cols) }
+    ensures sizes { HaveSameSizes matching.old matching.new }
     ensures pairings { IsPairing matching.old × IsPairing matching.new }
 {
     let row = matching.mate(col);
@@ -52,8 +50,7 @@ pub fn swap(matching: &mut Matching, row: Row, col: Col) -> Row
     ensures in_range { result < matching.old.rows }
     ensures pairs { Swaps (row, col) result matching.old.pairs matching.new.pairs }
     ensures size { length matching.new.pairs ≡ length matching.old.pairs }
-    ensures sizes { (matching.new.rows ≡ matching.old.rows)
-        × (matching.new.cols ≡ matching.old.cols) }
+    ensures sizes { HaveSameSizes matching.old matching.new }
     ensures pairings { IsPairing matching.old × IsPairing matching.new }
 {
     let own = unpair_col(matching, col);
@@ -69,8 +66,7 @@ pub fn pass(matching: &mut Matching, from: Col, to: Col)
     ensures pairs { (r : ℕ) × Among (r, from) matching.old.pairs
         × Swaps (r, to) r matching.old.pairs matching.new.pairs }
     ensures size { length matching.new.pairs ≡ length matching.old.pairs }
-    ensures sizes { (matching.new.rows ≡ matching.old.rows)
-        × (matching.new.cols ≡ matching.old.cols) }
+    ensures sizes { HaveSameSizes matching.old matching.new }
     ensures pairings { IsPairing matching.old × IsPairing matching.new }
 {
     let row = unpair_col(matching, from);
@@ -89,12 +85,10 @@ pub fn vacate(matching: &mut Matching, tree: &Tree, place: u32) -> Row
     ensures col_free { ¬ Among (at tree.now.queue 0).0 (cols_of matching.new.pairs) }
     ensures beside { AgreeBeside tree.now.queue matching.old.pairs matching.new.pairs }
     ensures size { length matching.old.pairs ≡ suc (length matching.new.pairs) }
-    ensures sizes { (matching.new.rows ≡ matching.old.rows)
-        × (matching.new.cols ≡ matching.old.cols) }
+    ensures sizes { HaveSameSizes matching.old matching.new }
 
     // Where each column leads to its parent, a matching of entries stays one.
-    ensures matching { (a : Matrix) → IsMatching a matching.old.pairs
-        → LeadsBack a matching.old.pairs tree.now.queue → IsMatching a matching.new.pairs }
+    ensures matching { KeepsEntriesBack tree.now.queue matching.old.pairs matching.new.pairs }
 {
     let (first, _) = tree.at(place);
     let free = unpair_col(matching, first);
@@ -119,13 +113,10 @@ pub fn shift(matching: &mut Matching, tree: &Tree, place: u32, free: Row)
         × (¬ Among r (rows_of matching.new.pairs)) }
     ensures beside { AgreeBeside tree.now.queue matching.old.pairs matching.new.pairs }
     ensures size { length matching.new.pairs ≡ length matching.old.pairs }
-    ensures sizes { (matching.new.rows ≡ matching.old.rows)
-        × (matching.new.cols ≡ matching.old.cols) }
+    ensures sizes { HaveSameSizes matching.old matching.new }
 
     // Where each column is led to by its parent, a matching of entries stays one.
-    ensures matching { (a : Matrix) → IsMatching a matching.old.pairs
-        → IsLedTo a matching.old.pairs tree.now.queue
-        → IsEntry a free (at tree.now.queue place).0 → IsMatching a matching.new.pairs }
+    ensures matching { KeepsEntriesBy free place tree.now.queue matching.old.pairs matching.new.pairs }
 {
     let mut row = free;
     let mut at = place;

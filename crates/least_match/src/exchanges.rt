@@ -3,18 +3,18 @@
 ghost use Rattle.std.specs.Bool.{OnTrue, OnFalse};
 ghost use Rattle.std.specs.Prelude.{◌≡◌, ◌+◌, ◌<◌, ◌≤◌, List, IfOk};
 ghost use Rattle.bip_defs.specs.LeastMatching.{mate_or};
-ghost use Rattle.bip_defs.specs.Lists.{Among};
-ghost use Rattle.bip_defs.specs.Matching.{IsMaximum, cols_of};
+ghost use Rattle.bip_defs.specs.Matching.{IsMaximum};
 ghost use Rattle.bip_defs.specs.Matrix.{IsEntry, Place, cols};
 ghost use Rattle.bip_graph.specs.Matching.{IsMaximumOf};
 ghost use Rattle.least_match.specs.Extensions.{Excludes, Extends, HasAt};
 ghost use Rattle.least_match.specs.Outcomes.{AreParted};
-ghost use Rattle.least_match.specs.Ready.{IsReady};
+ghost use Rattle.least_match.specs.Ready.{CanExchange, IsReady};
 
-use crate::classes::Classes;
+use crate::classes::ColClasses;
 use crate::exchange::{pass, swap};
-use crate::parts::Part;
-use crate::search::{ClassTail, Outcome};
+use crate::parts::ColPart;
+use crate::search::Outcome;
+use crate::tail::ClassTail;
 use crate::tree::SearchTrees;
 use bip_graph::Matching;
 use sp_ids::{Col, OutOfMemory, Row};
@@ -25,8 +25,8 @@ use std::alloc::Global;
 #[derive(Drop)]
 pub struct Exchanges<'p> {
     pub pattern: &'p Pattern,
-    pub parts: Vec<Part>,
-    pub classes: Classes,
+    pub parts: Vec<ColPart>,
+    pub classes: ColClasses,
     pub trees: SearchTrees,
 }
 
@@ -37,13 +37,13 @@ impl<'p> Exchanges<'p> {
     pub fn new(
         alloc: Global,
         pattern: &'p Pattern,
-        parts: Vec<Part>,
+        parts: Vec<ColPart>,
     ) -> Result<Exchanges<'p>, OutOfMemory>
         requires { AreParted pattern.now parts.items }
         ensures ready { IfOk result (λ x. (m : List Place) → IsMaximum pattern.entry.now m
             → IsReady pattern.entry.now m 0 x) }
     {
-        let classes = Classes::new(alloc, parts.as_slice())?;
+        let classes = ColClasses::new(alloc, parts.as_slice())?;
         let trees = SearchTrees::new(alloc, pattern.cols())?;
         Ok(Exchanges {
             pattern,
@@ -92,12 +92,7 @@ impl<'p> Exchanges<'p> {
     // Gives a row to a column that has another one, by an exchange that gives the row's mate
     // another row, or none where another column gets one. Whether there is such an exchange.
     fn exchange(&mut self, matching: &mut Matching, row: Row, col: Col, other: Col) -> bool
-        requires maximum { IsMaximumOf self.old.pattern.now matching.old }
-        requires ready { IsReady self.old.pattern.now matching.old.pairs col self.old }
-        requires entry { IsEntry self.old.pattern.now row col }
-        requires mate { Among (row, other) matching.old.pairs }
-        requires behind { col < other }
-        requires matched { Among col (cols_of matching.old.pairs) }
+        requires { CanExchange self.old.pattern.now matching.old row col other self.old }
         ensures ready { IsReady self.old.pattern.now matching.old.pairs col self.new }
         ensures maximum { IsMaximumOf self.old.pattern.now matching.new }
         ensures found { OnTrue result

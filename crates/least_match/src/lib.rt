@@ -7,6 +7,7 @@ mod exchange;
 mod exchanges;
 mod parts;
 mod search;
+mod tail;
 mod tree;
 mod way;
 
@@ -17,7 +18,7 @@ ghost use Rattle.bip_graph.specs.Matching.{IsMaximumOf};
 ghost use Rattle.least_match.specs.Outcomes.{AreParted};
 
 use crate::exchanges::Exchanges;
-use crate::parts::{Part, listed_parts, parts};
+use crate::parts::{ColPart, listed_parts, parts};
 use bip_graph::{Matching, Parts};
 use sp_ids::{Col, OutOfMemory};
 use sp_pattern::Pattern;
@@ -79,7 +80,7 @@ fn settled(
     alloc: Global,
     pattern: &Pattern,
     matching: Matching,
-    parts: Vec<Part>,
+    parts: Vec<ColPart>,
 ) -> Result<Matching, OutOfMemory>
     requires maximum { IsMaximumOf pattern.now matching }
     requires parts { AreParted pattern.now parts.items }

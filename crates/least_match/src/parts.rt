@@ -17,7 +17,7 @@ use std::alloc::Global;
 
 /// The part of the matrix in which a column lies.
 #[derive(Clone, Copy)]
-pub enum Part {
+pub enum ColPart {
     Horizontal,
     Square,
     Vertical,
@@ -31,7 +31,7 @@ pub fn parts(
     alloc: Global,
     pattern: &Pattern,
     matching: &Matching,
-) -> Result<Vec<Part>, OutOfMemory>
+) -> Result<Vec<ColPart>, OutOfMemory>
     requires maximum { IsMaximumOf pattern.now matching.now }
     ensures { IfOk result (λ v. AreParted pattern.now v.items) }
 {
@@ -57,22 +57,26 @@ pub fn listed_parts(
     alloc: Global,
     pattern: &Pattern,
     parts: &Parts,
-) -> Result<Vec<Part>, OutOfMemory>
+) -> Result<Vec<ColPart>, OutOfMemory>
     requires { HasParts pattern.now parts.now }
     ensures { IfOk result (λ v. AreParted pattern.now v.items) }
 {
-    let mut of_cols = vec![in alloc; Part::Square; pattern.cols() as usize]?;
+    let mut of_cols = vec![in alloc; ColPart::Square; pattern.cols() as usize]?;
     give(
         of_cols.as_mut_slice(),
         parts.hc.as_slice(),
-        Part::Horizontal,
+        ColPart::Horizontal,
     );
-    give(of_cols.as_mut_slice(), parts.vc.as_slice(), Part::Vertical);
+    give(
+        of_cols.as_mut_slice(),
+        parts.vc.as_slice(),
+        ColPart::Vertical,
+    );
     Ok(of_cols)
 }
 
 // Gives a part to these columns.
-fn give(parts: &mut [Part], cols: &[Col], part: Part)
+fn give(parts: &mut [ColPart], cols: &[Col], part: ColPart)
     requires cols { (c : ℕ) → Among c cols.now → c < length parts.old }
     ensures { IsGiven parts.old part cols.now parts.new }
 {
@@ -97,20 +101,20 @@ fn vertical_rows(
 }
 
 // The part of one column.
-fn part_of(pattern: &Pattern, col: Col, horizontal: &[bool], vertical: &[bool]) -> Part
+fn part_of(pattern: &Pattern, col: Col, horizontal: &[bool], vertical: &[bool]) -> ColPart
     requires col { col < cols pattern.now }
     requires horizontal { Marks (cols pattern.now) (IsHorizontalCol pattern.now) horizontal.now }
     requires vertical { Marks pattern.now.rows (IsVerticalRow pattern.now) vertical.now }
     ensures { IsIn pattern.now col result }
 {
     if horizontal[col.0 as usize] {
-        return Part::Horizontal;
+        return ColPart::Horizontal;
     }
     let rows = pattern.rows_of(col);
     for row in rows {
         if vertical[row.0 as usize] {
-            return Part::Vertical;
+            return ColPart::Vertical;
         }
     }
-    Part::Square
+    ColPart::Square
 }

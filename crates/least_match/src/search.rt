@@ -1,20 +1,19 @@
 //! Searches for exchanges, from both ends at once.
 
-ghost use Rattle.std.specs.Bool.{OnTrue, OnFalse};
 ghost use Rattle.std.specs.Prelude.{◌≡◌, ℕ, ◌<◌, ◌≤◌, List, length, IfSome, IfNone};
 ghost use Rattle.bip_defs.specs.Lists.{Among, Lists};
 ghost use Rattle.bip_defs.specs.Matching.{cols_of};
 ghost use Rattle.bip_defs.specs.Matrix.{IsEntry, Place, cols};
-ghost use Rattle.bip_defs.specs.Queues.{IsPrefix, at, heads};
-ghost use Rattle.bip_graph.specs.Matching.{IsMatchingOf};
-ghost use Rattle.least_match.specs.Classes.{IsOther, IsInTail};
-ghost use Rattle.least_match.specs.Exchanges.{Meets};
-ghost use Rattle.least_match.specs.Outcomes.{EndsAs, IsIn, IsTurn};
+ghost use Rattle.bip_defs.specs.Queues.{at, heads};
+ghost use Rattle.least_match.specs.Classes.{IsInTail};
+ghost use Rattle.least_match.specs.Outcomes.{EndsAs, IsTurn};
+ghost use Rattle.least_match.specs.Searches.{AreTreesFor, CanLookBack, CanLookForward, CanSearch, GrowsBack, GrowsForward, MeetsIn, SeesBack, SeesForward};
 ghost use Rattle.least_match.specs.Trees.{AreSearchTrees, Enters, HaveCols, IsScanned, IsScannedBack, LeadsTo, Looks};
 
 use crate::ahead::IdList;
 use crate::exchange::Meeting;
-use crate::parts::Part;
+use crate::parts::ColPart;
+use crate::tail::ClassTail;
 use crate::tree::{SearchTrees, Tree};
 use bip_graph::Matching;
 use sp_ids::{Col, Row};
@@ -40,28 +39,7 @@ pub enum Turn {
     EndBackward,
 }
 
-/// The columns from one on that are of its class: those among which an exchange for it is looked
-/// for.
-#[derive(Clone, Copy)]
-pub struct ClassTail<'p> {
-    pub pattern: &'p Pattern,
-    pub classes: &'p [u32],
-    pub col: Col,
-    ghost long: { length classes.now ≡ cols pattern.now },
-    ghost own: { col < cols pattern.now },
-}
-
 impl ClassTail<'_> {
-    /// Whether it has a column.
-    pub fn has(&self, col: Col) -> bool
-        requires col { col < cols self.now.pattern.now }
-        ensures yes { OnTrue result
-            (IsInTail self.now.pattern.now self.now.classes.now self.now.col col) }
-        ensures no { OnFalse result (IsOther self.now.classes.now self.now.col col) }
-    {
-        self.col.0 <= col.0 && self.classes[col.0 as usize] == self.classes[self.col.0 as usize]
-    }
-
     // Begins the forward tree with a column behind its own, and the backward tree with its own.
     fn begin(&self, first: Col, trees: &mut SearchTrees)
         requires first { IsInTail self.now.pattern.now self.now.classes.now self.now.col first }
@@ -87,20 +65,14 @@ impl ClassTail<'_> {
         place: u32,
         trees: &mut SearchTrees,
     ) -> Option<Meeting>
-        requires matching { IsMatchingOf self.now.pattern.now matching.now }
-        requires cols { HaveCols (cols self.now.pattern.now) trees.old }
-        requires place { place < length trees.old.forward.queue }
+        requires can { CanLookForward self.now matching.now place trees.old }
         requires entry { IsEntry self.now.pattern.now row (at trees.old.forward.queue place).0 }
         ensures cols { HaveCols (cols self.now.pattern.now) trees.new }
         ensures other { trees.new.backward ≡ trees.old.backward }
         ensures same { IfSome result (λ meeting. trees.new ≡ trees.old) }
-        ensures found { IfSome result
-            (Meets self.now.pattern.now matching.now.pairs self.now.col
-            trees.old.forward.queue trees.old.backward.queue) }
+        ensures found { IfSome result (MeetsIn self.now matching.now.pairs trees.old) }
         ensures seen { IfNone result
-            ((d : ℕ) × Among (row, d) matching.now.pairs
-            × Looks self.now.pattern.now matching.now.pairs self.now.classes.now self.now.col
-            d place trees.old.forward.queue trees.new.forward.queue trees.old.backward.queue) }
+            (SeesForward self.now matching.now.pairs row place trees.old trees.new) }
     {
         match matching.col_of(row) {
             None => Some(Meeting::FreeRow { from: place, row }),
@@ -125,22 +97,16 @@ impl ClassTail<'_> {
         place: u32,
         trees: &mut SearchTrees,
     ) -> Option<Meeting>
-        requires matching { IsMatchingOf self.now.pattern.now matching.now }
-        requires own { Among self.now.col (cols_of matching.now.pairs) }
-        requires cols { HaveCols (cols self.now.pattern.now) trees.old }
-        requires place { place < length trees.old.backward.queue }
+        requires can { CanLookBack self.now matching.now place trees.old }
         requires next { next < cols self.now.pattern.now }
         requires leads { LeadsTo self.now.pattern.now matching.now.pairs
             next (at trees.old.backward.queue place).0 }
         ensures cols { HaveCols (cols self.now.pattern.now) trees.new }
         ensures other { trees.new.forward ≡ trees.old.forward }
         ensures same { IfSome result (λ meeting. trees.new ≡ trees.old) }
-        ensures found { IfSome result
-            (Meets self.now.pattern.now matching.now.pairs self.now.col
-            trees.old.forward.queue trees.old.backward.queue) }
+        ensures found { IfSome result (MeetsIn self.now matching.now.pairs trees.old) }
         ensures seen { IfNone result
-            (Looks self.now.pattern.now matching.now.pairs self.now.classes.now self.now.col
-            next place trees.old.backward.queue trees.new.backward.queue trees.old.forward.queue) }
+            (SeesBack self.now matching.now.pairs next place trees.old trees.new) }
     {
         if !self.has(next) {
             return None;
@@ -165,21 +131,12 @@ impl ClassTail<'_> {
         rows: &IdList<'_, Row>,
         trees: &mut SearchTrees,
     ) -> Option<Meeting>
-        requires matching { IsMatchingOf self.now.pattern.now matching.now }
-        requires cols { HaveCols (cols self.now.pattern.now) trees.old }
-        requires place { place < length trees.old.forward.queue }
+        requires can { CanLookForward self.now matching.now place trees.old }
         requires rows { Lists
-            (λ r. IsEntry self.now.pattern.now r (at trees.old.forward.queue place).0) rows.now.ids.now }
-        ensures cols { HaveCols (cols self.now.pattern.now) trees.new }
-        ensures other { trees.new.backward ≡ trees.old.backward }
-        ensures grows { IsPrefix trees.old.forward.queue trees.new.forward.queue }
-        ensures trees { (d : ℕ) → AreSearchTrees self.now.pattern.now matching.now.pairs
-            self.now.classes.now self.now.col d trees.old.forward.queue trees.old.backward.queue
-            → AreSearchTrees self.now.pattern.now matching.now.pairs
-            self.now.classes.now self.now.col d trees.new.forward.queue trees.new.backward.queue }
-        ensures found { IfSome result
-            (Meets self.now.pattern.now matching.now.pairs self.now.col
-            trees.new.forward.queue trees.new.backward.queue) }
+            (λ r. IsEntry self.now.pattern.now r (at trees.old.forward.queue place).0)
+            rows.now.ids.now }
+        ensures grown { GrowsForward self.now matching.now.pairs trees.old trees.new }
+        ensures found { IfSome result (MeetsIn self.now matching.now.pairs trees.new) }
         ensures scanned { IfNone result
             (IsScanned self.now.pattern.now matching.now.pairs self.now.classes.now self.now.col
             trees.new.forward.queue (at trees.new.forward.queue place).0) }
@@ -202,22 +159,11 @@ impl ClassTail<'_> {
         found: &IdList<'_, Col>,
         trees: &mut SearchTrees,
     ) -> Option<Meeting>
-        requires matching { IsMatchingOf self.now.pattern.now matching.now }
-        requires own { Among self.now.col (cols_of matching.now.pairs) }
-        requires cols { HaveCols (cols self.now.pattern.now) trees.old }
-        requires place { place < length trees.old.backward.queue }
+        requires can { CanLookBack self.now matching.now place trees.old }
         requires found { (r : ℕ) × Among (r, (at trees.old.backward.queue place).0)
             matching.now.pairs × Lists (λ c. IsEntry self.now.pattern.now r c) found.now.ids.now }
-        ensures cols { HaveCols (cols self.now.pattern.now) trees.new }
-        ensures other { trees.new.forward ≡ trees.old.forward }
-        ensures grows { IsPrefix trees.old.backward.queue trees.new.backward.queue }
-        ensures trees { (d : ℕ) → AreSearchTrees self.now.pattern.now matching.now.pairs
-            self.now.classes.now self.now.col d trees.old.forward.queue trees.old.backward.queue
-            → AreSearchTrees self.now.pattern.now matching.now.pairs
-            self.now.classes.now self.now.col d trees.new.forward.queue trees.new.backward.queue }
-        ensures found { IfSome result
-            (Meets self.now.pattern.now matching.now.pairs self.now.col
-            trees.new.forward.queue trees.new.backward.queue) }
+        ensures grown { GrowsBack self.now matching.now.pairs trees.old trees.new }
+        ensures found { IfSome result (MeetsIn self.now matching.now.pairs trees.new) }
         ensures scanned { IfNone result
             (IsScannedBack self.now.pattern.now matching.now.pairs self.now.classes.now
             self.now.col trees.new.backward.queue (at trees.new.backward.queue place).0) }
@@ -241,21 +187,13 @@ impl ClassTail<'_> {
     pub fn search(
         &self,
         matching: &Matching,
-        part: Part,
+        part: ColPart,
         first: Col,
         trees: &mut SearchTrees,
     ) -> Outcome
-        requires matching { IsMatchingOf self.now.pattern.now matching.now }
-        requires own { Among self.now.col (cols_of matching.now.pairs) }
-        requires part { IsIn self.now.pattern.now self.now.col part }
-        requires first { IsInTail self.now.pattern.now self.now.classes.now self.now.col first }
-        requires behind { self.now.col < first }
-        requires matched { Among first (cols_of matching.now.pairs) }
-        requires cols { HaveCols (cols self.now.pattern.now) trees.old }
+        requires { CanSearch self.now matching.now part first trees.old }
         ensures cols { HaveCols (cols self.now.pattern.now) trees.new }
-        ensures trees { AreSearchTrees self.now.pattern.now matching.now.pairs
-            self.now.classes.now self.now.col first
-            trees.new.forward.queue trees.new.backward.queue }
+        ensures trees { AreTreesFor self.now matching.now.pairs first trees.new }
         ensures ends { EndsAs self.now.pattern.now matching.now.pairs self.now.classes.now
             self.now.col trees.new.forward.queue trees.new.backward.queue result }
     {
@@ -344,12 +282,12 @@ fn scan_of(tree: &Tree, done: u32) -> Scan
 // A forward tree that is complete shows that there is no path, where no maximum matching misses a
 // column of its class; a backward one, where none misses a row of it. One of the two holds in each
 // part.
-fn next_turn(part: Part, forward: Scan, backward: Scan, forward_first: bool) -> Turn
+fn next_turn(part: ColPart, forward: Scan, backward: Scan, forward_first: bool) -> Turn
     requires within { (forward.done ≤ forward.len) × (backward.done ≤ backward.len) }
     ensures { IsTurn part forward.done forward.len backward.done backward.len result }
 {
     match part {
-        Part::Horizontal => {
+        ColPart::Horizontal => {
             if backward.done == backward.len {
                 Turn::EndBackward
             } else if forward.done == forward.len {
@@ -360,7 +298,7 @@ fn next_turn(part: Part, forward: Scan, backward: Scan, forward_first: bool) -> 
                 Turn::GrowBackward
             }
         }
-        Part::Vertical => {
+        ColPart::Vertical => {
             if forward.done == forward.len {
                 Turn::EndForward
             } else if backward.done == backward.len {
@@ -371,7 +309,7 @@ fn next_turn(part: Part, forward: Scan, backward: Scan, forward_first: bool) -> 
                 Turn::GrowBackward
             }
         }
-        Part::Square => {
+        ColPart::Square => {
             if forward.done == forward.len {
                 Turn::EndForward
             } else if backward.done == backward.len {

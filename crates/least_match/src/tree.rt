@@ -1,6 +1,6 @@
 //! Trees of columns.
 
-ghost use Rattle.std.specs.Prelude.{◌≡◌, ◌<◌, ◌≤◌, ◌++◌, ◌∷◌, [], length, vec_len, vec_capacity, IfOk, IfSome, IfNone};
+ghost use Rattle.std.specs.Prelude.{◌≡◌, ◌<◌, ◌≤◌, ◌++◌, ◌∷◌, [], length, vec_capacity, IfOk, IfSome, IfNone};
 ghost use Rattle.bip_defs.specs.Lists.{Among, AreDistinct};
 ghost use Rattle.bip_defs.specs.Queues.{at, heads};
 ghost use Rattle.least_match.specs.Tree.{Reached};

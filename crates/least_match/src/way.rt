@@ -1,14 +1,14 @@
 //! What a path that was found is good for.
 
-ghost use Rattle.std.specs.Prelude.{◌≡◌, ℕ};
+ghost use Rattle.std.specs.Prelude.{ℕ};
 ghost use Rattle.bip_defs.specs.Lists.{Among};
 ghost use Rattle.bip_defs.specs.Queues.{at};
 ghost use Rattle.bip_graph.specs.Matching.{IsMatchingOf};
-ghost use Rattle.least_match.specs.Exchanges.{Frees, Meets};
-ghost use Rattle.least_match.specs.Trees.{AreSearchTrees};
+ghost use Rattle.least_match.specs.Exchanges.{Frees, HaveSameSizes};
+ghost use Rattle.least_match.specs.Searches.{AreTreesFor, MeetsIn};
 
 use crate::exchange::{Meeting, shift, unpair_col, vacate};
-use crate::search::ClassTail;
+use crate::tail::ClassTail;
 use crate::tree::SearchTrees;
 use bip_graph::Matching;
 
@@ -19,12 +19,9 @@ impl ClassTail<'_> {
     /// Takes no memory. Work: some reads and writes a pair of the path.
     pub fn exchange_path(&self, matching: &mut Matching, trees: &SearchTrees, meeting: Meeting)
         requires matching { IsMatchingOf self.now.pattern.now matching.old }
-        requires trees { (d : ℕ) × AreSearchTrees self.now.pattern.now matching.old.pairs
-            self.now.classes.now self.now.col d trees.now.forward.queue trees.now.backward.queue }
-        requires meets { Meets self.now.pattern.now matching.old.pairs self.now.col
-            trees.now.forward.queue trees.now.backward.queue meeting }
-        ensures sizes { (matching.new.rows ≡ matching.old.rows)
-            × (matching.new.cols ≡ matching.old.cols) }
+        requires trees { (d : ℕ) × AreTreesFor self.now matching.old.pairs d trees.now }
+        requires meets { MeetsIn self.now matching.old.pairs trees.now meeting }
+        ensures sizes { HaveSameSizes matching.old matching.new }
         ensures frees { (r : ℕ) → Among (r, (at trees.now.forward.queue 0).0) matching.old.pairs
             → Frees self.now.pattern.now matching.old.pairs self.now.col r matching.new.pairs }
     {

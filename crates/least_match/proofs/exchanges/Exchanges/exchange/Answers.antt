@@ -10,11 +10,16 @@ use Rattle.least_match.proofs.exchanges.Exchanges.exchange.Goals as goal
 pub has-requires : goal.has-requires
 has-requires c = record { col = entry_col _ _ _ (c.requires.maximum.maximum.matching.entries _ _ c.requires.mate) }
 
-pub search-requires-clause-part : goal.search-requires-clause-part
-search-requires-clause-part c = part_at _ _ _ _ c.requires.ready.parts (entry_col _ _ _ c.requires.entry) (subst (λ x. c.index-part.result.now ≡ get_or c.args.self.now.parts.items x c.index-part.result.now) c.col.view_is c.index-part.ensures)
-
-pub search-requires-clause-matched : goal.search-requires-clause-matched
-search-requires-clause-matched c = col_among _ _ _ c.requires.mate
+pub search-requires : goal.search-requires
+search-requires c = record {
+  matching = c.requires.maximum.matching;
+  own = c.requires.matched;
+  part = part_at _ _ _ _ c.requires.ready.parts (entry_col _ _ _ c.requires.entry) (subst (λ x. c.index-part.result.now ≡ get_or c.args.self.now.parts.items x c.index-part.result.now) c.col.view_is c.index-part.ensures);
+  first = c.if-not-has.ensures.yes;
+  behind = c.requires.behind;
+  matched = col_among _ _ _ c.requires.mate;
+  cols = c.requires.ready.trees;
+}
 
 pub exchange_path-requires-clause-trees : goal.exchange_path-requires-clause-trees
 exchange_path-requires-clause-trees c = (c.args.other, c.search.ensures.trees)

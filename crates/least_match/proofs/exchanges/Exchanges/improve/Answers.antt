@@ -25,8 +25,15 @@ returns-then-other-col-clause-none c =
 pub pass-requires-clause-from : goal.pass-requires-clause-from
 pass-requires-clause-from c = col_among c.args.row c.in-Some.other c.args.matching.now.pairs c.in-Some.ensures.found
 
-pub exchange-requires-clause-matched : goal.exchange-requires-clause-matched
-exchange-requires-clause-matched c = col_among c.in-Some-row_of.field-0 c.args.col c.args.matching.now.pairs c.in-Some-row_of.ensures.found
+pub exchange-requires : goal.exchange-requires
+exchange-requires c = record {
+  maximum = c.requires.maximum;
+  ready = c.requires.ready;
+  entry = c.requires.entry;
+  mate = c.in-Some.ensures.found;
+  behind = (let le = c.if-other-col.false in let is : c.other.inside.0 ≡ c.in-Some.other = c.other.view_is in let at : c.col.inside.0 ≡ c.args.col = c.col.view_is in omega arith);
+  matched = col_among c.in-Some-row_of.field-0 c.args.col c.args.matching.now.pairs c.in-Some-row_of.ensures.found;
+}
 
 pub returns-in-None-row_of-clause-found : goal.returns-in-None-row_of-clause-found
 returns-in-None-row_of-clause-found c =
