@@ -7,7 +7,7 @@ use Rattle.bip_defs.specs.Matching.{IsMatching, cols_of}
 use Rattle.bip_defs.specs.Matrix.{Matrix, Place}
 use Rattle.bip_graph.specs.Answers.{AreOfVersion, ArePairs, IsAnalysis, report_of}
 use Rattle.bip_graph.specs.Texts.{Report, report_text}
-use Rattle.btf_text.specs.Readable.{FitsText, IsReadable}
+use Rattle.report_reader.specs.Readable.{FitsText, IsReadable}
 use Rattle.sp_pattern.specs.Stored.{IsPattern}
 use Rattle.btf_check.specs.Reasons.{IsMet}
 use Rattle.btf_check.specs.Verdicts.{IsJudged, IsMetBy, IsReportOf, IsValid, IsVerdict, Spells}

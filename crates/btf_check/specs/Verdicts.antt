@@ -7,7 +7,7 @@ use Rattle.bip_defs.specs.Matching.{IsMaximum, cols_of}
 use Rattle.bip_defs.specs.Matrix.{Matrix, Place}
 use Rattle.bip_graph.specs.Answers.{AreOfVersion, IsAnalysis, report_of}
 use Rattle.bip_graph.specs.Texts.{Report, report_text}
-use Rattle.btf_text.specs.Readable.{IsReadable}
+use Rattle.report_reader.specs.Readable.{IsReadable}
 use Rattle.btf_check.specs.Reasons.{IsMet}
 use Rattle.btf_check.specs.declared.verdict.Verdict.{Verdict}
 use Rattle.btf_check.specs.declared.verdict.Verdict.TheVariants.{Invalid, Valid}

@@ -4,10 +4,10 @@ ghost use Rattle.std.specs.Prelude.{◌≡◌, ◌↔◌, ℕ, ◌<◌, ◌++◌
 ghost use Rattle.bip_defs.specs.Lists.{Among, AreDistinct};
 ghost use Rattle.bip_graph.specs.Decompositions.{components_of};
 ghost use Rattle.btf_check.specs.ReportParts.{AreOnce};
-ghost use Rattle.btf_text.specs.ReportRead.{listed_in};
+ghost use Rattle.report_reader.specs.ReportRead.{listed_in};
 
 use bip_graph::{Blocks, Components};
-use btf_text::ListedComponents;
+use report_reader::ListedComponents;
 use sp_ids::{Col, Id, OutOfMemory, Row};
 use std::alloc::Global;
 

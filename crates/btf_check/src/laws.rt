@@ -6,7 +6,7 @@ ghost use Rattle.btf_check.specs.Verdicts.{IsMetBy, IsValid, IsVerdict};
 ghost use Rattle.btf_check.specs.declared.verdict.Verdict.{Verdict};
 ghost use Rattle.sp_pattern.specs.Stored.{IsPattern};
 
-use btf_text::{one_spelling, reports_can_be_read};
+use report_reader::{one_spelling, reports_can_be_read};
 
 /// No reason applies to bytes exactly where they are the report with pairs of the matrix, in either
 /// version, with orders or without.

@@ -7,7 +7,7 @@ ghost use Rattle.bip_defs.specs.Matching.{IsMaximum, cols_of};
 ghost use Rattle.bip_graph.specs.Decompositions.{HasParts, parts_of};
 ghost use Rattle.btf_check.specs.ReportParts.{HasOuterParts, HasSizes};
 ghost use Rattle.btf_check.specs.Reasons.{AreOrdersOf, TellsParts};
-ghost use Rattle.btf_text.specs.ReportRead.{components_read, contents, orders_in};
+ghost use Rattle.report_reader.specs.ReportRead.{components_read, contents, orders_in};
 ghost use Rattle.btf_check.specs.Verdicts.{IsJudged};
 
 use crate::Verdict;
@@ -16,7 +16,7 @@ use crate::compare::{
 };
 use crate::pairs::matching_of;
 use bip_graph::{Matching, Parts};
-use btf_text::Report;
+use report_reader::Report;
 use dm_coarse::{coarse_if_maximum, components};
 use dm_fine::fine;
 use sp_ids::{Col, OutOfMemory, Row};

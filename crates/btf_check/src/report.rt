@@ -5,7 +5,7 @@ ghost use Rattle.btf_check.specs.Verdicts.{IsVerdict};
 
 use crate::Verdict;
 use crate::reasons::judge_report;
-use btf_text::{one_spelling, read_report};
+use report_reader::{one_spelling, read_report};
 use sp_ids::OutOfMemory;
 use sp_pattern::Pattern;
 use std::alloc::Global;

@@ -2,12 +2,10 @@ pub mod Batches
 pub mod Bottlenecks
 pub mod Buffered
 pub mod Columns
-pub mod ComponentArrays
 pub mod Diagonals
-pub mod Readable
 pub mod Replies
-pub mod ReportGrammar
-pub mod ReportRead
 pub mod Reports
 pub mod Surplus
 pub mod Texts
+pub use Rattle.report_reader.specs.Readable
+pub use Rattle.report_reader.specs.ReportRead

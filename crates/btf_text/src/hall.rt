@@ -4,7 +4,7 @@ ghost use Rattle.std.specs.Prelude.{◌≡◌, ◌↔◌, ◌<◌, IsTrue};
 ghost use Rattle.bip_defs.specs.Lists.{Among, IsRising};
 ghost use Rattle.bip_defs.specs.Matrix.{touches};
 
-use crate::numerals::rises;
+use report_reader::rises;
 use sp_ids::{Col, Id, Row};
 use sp_pattern::Pattern;
 use std::marker::Model;

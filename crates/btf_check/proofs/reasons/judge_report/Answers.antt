@@ -4,7 +4,7 @@ use Rattle.bip_defs.specs.Parts.{ArePartsOf}
 use Rattle.bip_graph.specs.Matching.{IsMatchingOf}
 use Rattle.bip_graph.specs.Decompositions.{parts_of}
 use Rattle.btf_check.specs.Reasons.{ArePaired, TellsBlocks}
-use Rattle.btf_text.specs.ReportRead.{contents}
+use Rattle.report_reader.specs.ReportRead.{contents}
 use Rattle.btf_check.proofs.Comparisons.{all_met, first_blocks, first_components, tells_blocks, told_blocks}
 use Rattle.btf_check.proofs.ReasonLemmas.{report_of_met}
 use Rattle.btf_check.proofs.PairLemmas.{paired_matching}

@@ -1,7 +1,7 @@
 use Rattle.std.proofs.Common.{IsTrue, IfSome, subst, sym}
 use Rattle.bip_defs.specs.ConnectedComponents.{AreConnectedComponents}
 use Rattle.bip_graph.specs.Decompositions.{components_of}
-use Rattle.btf_text.specs.ReportRead.{components_read, listed_in}
+use Rattle.report_reader.specs.ReportRead.{components_read, listed_in}
 use Rattle.btf_check.proofs.Comparisons.{told_components}
 use Rattle.btf_check.proofs.reasons.tells_components.Goals as goal
 

@@ -8,7 +8,7 @@ use Rattle.bip_defs.specs.Blocks.{all_cols, all_rows}
 use Rattle.bip_graph.specs.Decompositions.{parts_of}
 use Rattle.btf_check.specs.ReportParts.{HasOuterParts, HasSizes}
 use Rattle.btf_check.specs.Reasons.{TellsParts}
-use Rattle.btf_text.specs.ReportRead.{contents}
+use Rattle.report_reader.specs.ReportRead.{contents}
 use Rattle.btf_check.proofs.Comparisons.{once_back, once_same, tells_parts, told_cols, told_outer, told_rows}
 use Rattle.btf_check.proofs.reasons.tells_parts.Goals as goal
 

@@ -2,9 +2,9 @@ use Rattle.std.proofs.Common.{◌≡◌, ℕ, List, Option, Some, None, refl, ru
 use Rattle.std.specs.Prelude.{IfNone, IfSome}
 use Rattle.std.proofs.lemmas.Result.{IfOk-weaker}
 use Rattle.bip_graph.specs.Texts.{report_text}
-use Rattle.btf_text.specs.Readable.{IsReadable}
-use Rattle.btf_text.specs.ReportRead.{contents}
-use Rattle.btf_text.specs.declared.reader.Report.{Report}
+use Rattle.report_reader.specs.Readable.{IsReadable}
+use Rattle.report_reader.specs.ReportRead.{contents}
+use Rattle.report_reader.specs.declared.reader.Report.{Report}
 use Rattle.btf_check.specs.Verdicts.{IsJudged, IsVerdict}
 use Rattle.btf_check.proofs.Verdicts.{judged, no_report, rising_pairs}
 use Rattle.btf_check.proofs.report.judge.Goals as goal

@@ -1,6 +1,0 @@
-use Rattle.std.proofs.Common.{◌≡◌, ◌<◌, ◌^◌, drop}
-use Rattle.btf_text.specs.ReportGrammar.{digits_on}
-use Rattle.btf_text.proofs.numerals.digits_on.Given as goal
-
-abbrev pub invariant-loop-at : goal.invariant-loop-at
-invariant-loop-at l = record { fits : l.value < 2 ^ 32; same : digits_on l.value (drop l.at l.bytes) ≡ digits_on l.first l.bytes }

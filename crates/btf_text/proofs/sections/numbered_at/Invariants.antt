@@ -1,6 +1,0 @@
-use Rattle.btf_text.specs.ReportGrammar.{numbered_at}
-use Rattle.btf_text.proofs.ComponentLists.{HaveNumbered}
-use Rattle.btf_text.proofs.sections.numbered_at.Given as goal
-
-abbrev pub invariant-loop-at : goal.invariant-loop-at
-invariant-loop-at l = HaveNumbered l.read l.count l.at l.rest (numbered_at l.count 1 l.bytes)

@@ -1,0 +1,16 @@
+pub mod BlockLists
+pub mod Bodies
+pub mod ComponentArrays
+pub mod ComponentLists
+pub mod Digits
+pub mod IdLists
+pub mod Limits
+pub mod ListLines
+pub mod Listed
+pub mod PairLines
+pub mod PairLists
+pub mod Prefixes
+pub mod Reports
+pub mod Risen
+pub mod Rising
+pub mod Spelled

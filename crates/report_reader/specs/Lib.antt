@@ -1,0 +1,4 @@
+pub mod ComponentArrays
+pub mod Readable
+pub mod ReportGrammar
+pub mod ReportRead
