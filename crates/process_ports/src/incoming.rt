@@ -49,7 +49,7 @@ pub type StdinSource = Incoming<Stdin>;
 
 #[cfg(test)]
 mod tests {
-    use super::Incoming;
+    use super::{Incoming, StdinSource};
     use sp_ports::{Failed, Source};
     use std::io::{self, ErrorKind, Read};
     use std::test::Fail;
@@ -87,5 +87,17 @@ mod tests {
             assert_eq!(rt; source.faults, faults);
         }
         Ok(())
+    }
+
+    #[test]
+    fn standard_input_is_read_to_its_end(rt: HostRuntime) -> Result<(), Fail> {
+        let mut source = StdinSource::new(rt.stdin());
+        let mut buffer = [0u8; 16];
+        for _ in 0..1000 {
+            if source.read(&mut buffer) == Ok(0) {
+                return Ok(());
+            }
+        }
+        panic!(rt; "there is no end")
     }
 }

@@ -68,7 +68,7 @@ pub type StderrSink = Outgoing<Stderr>;
 
 #[cfg(test)]
 mod tests {
-    use super::Outgoing;
+    use super::{Outgoing, StderrSink, StdoutSink};
     use sp_ports::{Failed, Sink};
     use std::io::{self, ErrorKind, Write};
     use std::test::Fail;
@@ -113,6 +113,22 @@ mod tests {
             assert_eq!(rt; sink.flush(), Err(Failed));
             assert_eq!(rt; sink.faults, faults);
         }
+        Ok(())
+    }
+
+    #[test]
+    fn standard_output_takes_bytes(rt: HostRuntime) -> Result<(), Fail> {
+        let mut sink = StdoutSink::new(rt.stdout());
+        assert_eq!(rt; sink.write(b"."), Ok(1));
+        assert_eq!(rt; sink.flush(), Ok(()));
+        Ok(())
+    }
+
+    #[test]
+    fn standard_error_takes_bytes(rt: HostRuntime) -> Result<(), Fail> {
+        let mut sink = StderrSink::new(rt.stderr());
+        assert_eq!(rt; sink.write(b"."), Ok(1));
+        assert_eq!(rt; sink.flush(), Ok(()));
         Ok(())
     }
 }
