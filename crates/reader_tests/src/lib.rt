@@ -1,5 +1,5 @@
-//! Tests of what is read, files of matrices, edit lines, batches and words, and of the devices in
-//! memory. There is nothing here for other crates.
+//! Tests of what is read, files of matrices, edit lines, batches and words, of the devices in memory,
+//! and of the words that all crates share. There is nothing here for other crates.
 #![tactic(auto)]
 
 #[cfg(test)]
@@ -10,6 +10,8 @@ mod batches;
 mod devices;
 #[cfg(test)]
 mod edit_lines;
+#[cfg(test)]
+mod entries;
 #[cfg(test)]
 mod files;
 #[cfg(test)]

@@ -65,18 +65,3 @@ impl Id for Col {
         Col(at)
     }
 }
-
-#[cfg(test)]
-mod tests {
-    use super::*;
-
-    fn made_again<I: Id>(id: I) -> I {
-        I::of(id.number())
-    }
-
-    #[test]
-    fn rows_and_columns_are_made_of_their_numbers(rt: HostRuntime) {
-        assert_eq!(rt; made_again(Row(4)), Row(4));
-        assert_eq!(rt; made_again(Col(7)), Col(7));
-    }
-}

@@ -45,23 +45,3 @@ impl Status {
         }
     }
 }
-
-#[cfg(test)]
-mod tests {
-    use super::*;
-
-    #[test]
-    fn codes_of_the_statuses(rt: HostRuntime) {
-        let answers = [Status::Ok, Status::Negative];
-        let refusals = [
-            Status::Usage,
-            Status::Malformed,
-            Status::Limit,
-            Status::NeedsInteger,
-        ];
-        let faults = [Status::ReadFault, Status::WriteFault, Status::OutOfMemory];
-        assert_eq!(rt; answers.map(|status| status.code()), [0, 1]);
-        assert_eq!(rt; refusals.map(|status| status.code()), [2, 3, 4, 8]);
-        assert_eq!(rt; faults.map(|status| status.code()), [5, 6, 7]);
-    }
-}

@@ -154,38 +154,3 @@ impl Triples {
         self.values.as_slice()
     }
 }
-
-#[cfg(test)]
-mod tests {
-    use super::*;
-    use std::test::Fail;
-
-    #[test]
-    fn entries_of_an_integer_file(rt: HostRuntime) -> Result<(), Fail> {
-        let mut triples = Triples::new(rt.alloc(), 2, 3, Field::Integer)?;
-        assert_eq!(rt; triples.is_empty(), true);
-        triples.push(Row(1), Col(2), -5)?;
-        triples.push(Row(0), Col(2), 7)?;
-        triples.push(Row(1), Col(2), 5)?;
-        assert_eq!(rt; triples.len(), 3);
-        assert_eq!(rt; triples.place(1), (Row(0), Col(2)));
-        assert_eq!(rt; triples.value(0), -5);
-        assert_eq!(rt; triples.values(), [-5, 7, 5].as_slice());
-        Ok(())
-    }
-
-    #[test]
-    fn entries_of_a_pattern_file(rt: HostRuntime) -> Result<(), Fail> {
-        let mut triples = Triples::new(rt.alloc(), 2, 3, Field::Pattern)?;
-        triples.push(Row(0), Col(1), 0)?;
-        triples.push(Row(1), Col(0), 0)?;
-        assert_eq!(rt; (triples.rows(), triples.cols()), (2, 3));
-        assert_eq!(rt; triples.field(), Field::Pattern);
-        assert_eq!(rt; triples.is_empty(), false);
-        assert_eq!(rt;
-            triples.places(),
-            [(Row(0), Col(1)), (Row(1), Col(0))].as_slice()
-        );
-        Ok(())
-    }
-}
