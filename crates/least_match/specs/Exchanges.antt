@@ -25,13 +25,13 @@ abbrev pub HaveSameSizes : Pairing → Pairing → Type 0
 HaveSameSizes m n = (n.rows ≡ m.rows) × (n.cols ≡ m.cols)
 
 -- a matching of entries stays one where each column leads to its parent
-abbrev pub KeepsEntriesBack : Queue → List Place → List Place → Type 0
-KeepsEntriesBack q m n = (a : Matrix) → IsMatching a m → LeadsBack a m q → IsMatching a n
+abbrev pub KeepsEntriesBack : Queue → Pairing → Pairing → Type 0
+KeepsEntriesBack q m n = (a : Matrix) → IsMatching a m.pairs → LeadsBack a m.pairs q → IsMatching a n.pairs
 
 -- a matching of entries stays one where each column is led to by its parent, and the column at the place has an entry in the row
-abbrev pub KeepsEntriesBy : ℕ → ℕ → Queue → List Place → List Place → Type 0
-KeepsEntriesBy row place q m n = (a : Matrix) → IsMatching a m → IsLedTo a m q → IsEntry a row (at q place).0
-    → IsMatching a n
+abbrev pub KeepsEntriesBy : ℕ → ℕ → Queue → Pairing → Pairing → Type 0
+KeepsEntriesBy row place q m n = (a : Matrix) → IsMatching a m.pairs → IsLedTo a m.pairs q
+    → IsEntry a row (at q place).0 → IsMatching a n.pairs
 
 -- the column gets an unmatched row in place of its own
 abbrev pub Swaps : Place → ℕ → List Place → List Place → Type 0

@@ -88,7 +88,7 @@ pub fn vacate(matching: &mut Matching, tree: &Tree, place: u32) -> Row
     ensures sizes { HaveSameSizes matching.old matching.new }
 
     // Where each column leads to its parent, a matching of entries stays one.
-    ensures matching { KeepsEntriesBack tree.now.queue matching.old.pairs matching.new.pairs }
+    ensures matching { KeepsEntriesBack tree.now.queue matching.old matching.new }
 {
     let (first, _) = tree.at(place);
     let free = unpair_col(matching, first);
@@ -116,7 +116,7 @@ pub fn shift(matching: &mut Matching, tree: &Tree, place: u32, free: Row)
     ensures sizes { HaveSameSizes matching.old matching.new }
 
     // Where each column is led to by its parent, a matching of entries stays one.
-    ensures matching { KeepsEntriesBy free place tree.now.queue matching.old.pairs matching.new.pairs }
+    ensures matching { KeepsEntriesBy free place tree.now.queue matching.old matching.new }
 {
     let mut row = free;
     let mut at = place;
