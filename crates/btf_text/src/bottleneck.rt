@@ -9,14 +9,14 @@ ghost use Rattle.sp_ports.specs.Device.{Writes, seen};
 
 use crate::TextBuf;
 use crate::diagonal::{put_entries, put_rectangular, put_singular};
-use crate::hall::Hall;
+use crate::hall::{Hall, RowLookup, put_neighbours};
 use crate::text::Text;
 use bip_graph::Bottleneck;
 use sp_ids::{Col, Row};
 use sp_pattern::{Pattern, Weights};
 use sp_ports::{Failed, Sink};
 
-/// A matrix, its weights, and a number that they are compared with.
+/// The entries of a matrix whose weight is greater than a number.
 #[derive(Drop)]
 struct Above<'a, 'p> {
     pattern: &'a Pattern,
@@ -25,42 +25,22 @@ struct Above<'a, 'p> {
     ghost of: { weights.now.matrix ≡ pattern.now },
 }
 
-/// Whether a row has an entry of greater weight in one of these columns.
-fn touches_above(above: &Above, hall: &Hall, row: Row) -> bool
-    requires { row < above.now.pattern.now.rows }
-    ensures { result ≡ touches (entries_above above.now.weights.now above.now.least) hall.now row }
-{
-    let cols = above.pattern.cols_of(row);
-    for col in cols {
-        if hall.has(*col) && above.weights.weight(row, *col) > above.least {
-            return true;
+impl RowLookup for Above<'_, '_> {
+    ghost matrix = { λ b. entries_above b.weights.now b.least };
+
+    fn rows(&self) -> u32 {
+        self.pattern.rows()
+    }
+
+    fn has_entry_in(&self, row: Row, hall: &Hall) -> bool {
+        let cols = self.pattern.cols_of(row);
+        for col in cols {
+            if hall.has(*col) && self.weights.weight(row, *col) > self.least {
+                return true;
+            }
         }
+        false
     }
-    false
-}
-
-/// Appends a row, counted from 1, if it has an entry of greater weight in one of these columns.
-fn put_where_above<K: Sink>(text: &mut Text<K>, above: &Above, hall: &Hall, row: Row)
-    requires { row < above.now.pattern.now.rows }
-    ensures { PutsBytes K.taken K.faults text.old text.new (spaced (counted (filter
-        (touches (entries_above above.now.weights.now above.now.least) hall.now) (row ∷ [])))) }
-{
-    if !touches_above(above, hall, row) {
-        return;
-    }
-    text.put_number(u64::from(row.0) + 1);
-}
-
-/// Appends the list line of the rows with an entry of greater weight in one of these columns.
-fn put_rows_above<K: Sink>(text: &mut Text<K>, above: &Above, hall: &Hall)
-    ensures { Puts K.taken K.faults text.old text.new (line (codes "above_rows") (counted
-        (neighbours (entries_above above.now.weights.now above.now.least) hall.now)) ∷ []) }
-{
-    text.put_piece(b"above_rows");
-    for row in 0..above.pattern.rows() {
-        put_where_above(text, above, hall, Row(row));
-    }
-    text.put_piece(b"\n");
 }
 
 /// Appends a perfect matching, the least of its weights, and the columns that show that none is
@@ -72,7 +52,7 @@ fn put_best<K: Sink>(text: &mut Text<K>, above: &Above, pairs: &[(Row, Col)], ha
 {
     text.put_line(b"bottleneck", &[pairs.len() as u64, above.least]);
     put_entries(text, above.weights, pairs);
-    put_rows_above(text, above, &Hall::new(hall));
+    put_neighbours(text, b"above_rows", above, &Hall::new(hall));
     text.put_list(b"above_columns", hall);
     text.put_line(b"end", &[]);
 }

@@ -10,7 +10,7 @@ ghost use Rattle.btf_text.specs.Texts.{Puts, PutsBytes};
 ghost use Rattle.sp_ports.specs.Device.{Writes, seen};
 
 use crate::TextBuf;
-use crate::hall::{Hall, touches};
+use crate::hall::{Hall, put_neighbours};
 use crate::text::Text;
 use bip_graph::Heaviest;
 use itoa::Buffer;
@@ -59,36 +59,12 @@ fn put_weighed<K: Sink>(
     text.put_line(b"end", &[]);
 }
 
-/// Appends a row, counted from 1, if it has an entry in one of these columns.
-fn put_where_touched<K: Sink>(text: &mut Text<K>, pattern: &Pattern, hall: &Hall, row: Row)
-    requires { row < pattern.now.rows }
-    ensures { PutsBytes K.taken K.faults text.old text.new
-        (spaced (counted (filter (touches pattern.now hall.now) (row ∷ [])))) }
-{
-    if !touches(pattern, hall, row) {
-        return;
-    }
-    text.put_number(u64::from(row.0) + 1);
-}
-
-/// Appends the list line of the rows with an entry in one of these columns.
-fn put_neighbours<K: Sink>(text: &mut Text<K>, pattern: &Pattern, hall: &Hall)
-    ensures { Puts K.taken K.faults text.old text.new
-        (line (codes "rows") (counted (neighbours pattern.now hall.now)) ∷ []) }
-{
-    text.put_piece(b"rows");
-    for row in 0..pattern.rows() {
-        put_where_touched(text, pattern, hall, Row(row));
-    }
-    text.put_piece(b"\n");
-}
-
 /// Appends the rank, the rows with an entry in one of these columns, and these columns.
 pub(crate) fn put_singular<K: Sink>(text: &mut Text<K>, pattern: &Pattern, rank: u32, hall: &[Col])
     ensures { Puts K.taken K.faults text.old text.new (singular_lines pattern.now rank hall.now) }
 {
     text.put_line(b"singular", &[u64::from(rank)]);
-    put_neighbours(text, pattern, &Hall::new(hall));
+    put_neighbours(text, b"rows", pattern, &Hall::new(hall));
     text.put_list(b"columns", hall);
     text.put_line(b"end", &[]);
 }

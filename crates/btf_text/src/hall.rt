@@ -1,15 +1,19 @@
 //! Columns in which the entries of rows are looked for.
 
-ghost use Rattle.std.specs.Prelude.{◌≡◌, ◌↔◌, ◌<◌, IsTrue};
+ghost use Rattle.std.specs.Prelude.{◌≡◌, ◌↔◌, ◌<◌, ◌≤◌, ◌∷◌, [], IsTrue, filter, length};
 ghost use Rattle.bip_defs.specs.Lists.{Among, IsRising};
-ghost use Rattle.bip_defs.specs.Matrix.{touches};
+ghost use Rattle.bip_defs.specs.Matrix.{Matrix, neighbours, touches};
+ghost use Rattle.bip_graph.specs.Texts.{counted, line, spaced};
+ghost use Rattle.btf_text.specs.Texts.{Puts, PutsBytes};
 
+use crate::text::Text;
 use report_reader::rises;
 use sp_ids::{Col, Id, Row};
 use sp_pattern::Pattern;
+use sp_ports::Sink;
 use std::marker::Model;
 
-/// Columns, and whether they rise. Work of a look: by halves where they rise, else one by one.
+/// Columns among which others are looked up: by halves where they rise, else one by one.
 #[derive(Drop)]
 pub(crate) struct Hall<'a> {
     cols: &'a [Col],
@@ -74,16 +78,66 @@ fn has_by_halves(hall: &[Col], col: Col) -> bool
     hall[first] == col
 }
 
-/// Whether a row has an entry in one of these columns.
-pub(crate) fn touches(pattern: &Pattern, hall: &Hall, row: Row) -> bool
-    requires { row < pattern.now.rows }
-    ensures { result ≡ touches pattern.now hall.now row }
-{
-    let cols = pattern.cols_of(row);
-    for col in cols {
-        if hall.has(*col) {
-            return true;
-        }
+/// A matrix in whose rows entries are looked up.
+pub(crate) trait RowLookup {
+    /// The matrix.
+    ghost matrix: { Self → Matrix };
+
+    /// The number of rows.
+    fn rows(&self) -> u32
+        ensures { result ≡ Matrix.rows (matrix self.now) };
+
+    /// Whether a row has an entry in one of these columns.
+    fn has_entry_in(&self, row: Row, hall: &Hall) -> bool
+        requires { row < Matrix.rows (matrix self.now) }
+        ensures { result ≡ touches (matrix self.now) hall.now row };
+}
+
+impl RowLookup for Pattern {
+    ghost matrix = { λ a. a };
+
+    fn rows(&self) -> u32 {
+        Pattern::rows(self)
     }
-    false
+
+    fn has_entry_in(&self, row: Row, hall: &Hall) -> bool {
+        let cols = self.cols_of(row);
+        for col in cols {
+            if hall.has(*col) {
+                return true;
+            }
+        }
+        false
+    }
+}
+
+/// Appends a row, counted from 1, if it has an entry in one of these columns.
+fn put_where_touched<K: Sink, M: RowLookup>(text: &mut Text<K>, matrix: &M, hall: &Hall, row: Row)
+    requires { row < Matrix.rows (M.matrix matrix.now) }
+    ensures { PutsBytes K.taken K.faults text.old text.new
+        (spaced (counted (filter (touches (M.matrix matrix.now) hall.now) (row ∷ [])))) }
+{
+    if !matrix.has_entry_in(row, hall) {
+        return;
+    }
+    text.put_number(u64::from(row.0) + 1);
+}
+
+/// Appends the list line of the rows with an entry in one of these columns, behind a word of at
+/// most 65,536 bytes.
+pub(crate) fn put_neighbours<K: Sink, M: RowLookup>(
+    text: &mut Text<K>,
+    word: &[u8],
+    matrix: &M,
+    hall: &Hall,
+)
+    requires { length word.now ≤ 65536 }
+    ensures { Puts K.taken K.faults text.old text.new
+        (line word.now (counted (neighbours (M.matrix matrix.now) hall.now)) ∷ []) }
+{
+    text.put_piece(word);
+    for row in 0..matrix.rows() {
+        put_where_touched(text, matrix, hall, Row(row));
+    }
+    text.put_piece(b"\n");
 }

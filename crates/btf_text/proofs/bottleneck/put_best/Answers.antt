@@ -11,5 +11,5 @@ returns g c =
     let b = entries_above c.args.above.now.weights.now c.args.above.now.least in
     puts_then c.put_line.ensures
     (puts_then c.put_entries.ensures
-    (puts_then (puts_as (ap (λ (hall : List ℕ). line (codes "above_rows") (counted (neighbours b hall)) ∷ []) c.new.ensures) c.put_rows_above.ensures)
+    (puts_then (puts_as (ap (λ (hall : List ℕ). line (codes "above_rows") (counted (neighbours b hall)) ∷ []) c.new.ensures) c.put_neighbours.ensures)
     (puts_then (puts_as (ap (λ (list : List ℕ). line (codes "above_columns") (counted list) ∷ []) (same_ids c.args.hall.now)) c.put_list.ensures) c.put_line-2.ensures)))
