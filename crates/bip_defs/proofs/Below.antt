@@ -18,7 +18,7 @@ listed_more P n xs l p = record {
   complete = λ x q. ⊎_elim (λ (e : x ≡ n). among_right x xs (n ∷ []) (inl e)) (λ (ne : x ≢ n). among_left x xs (n ∷ []) (l.complete x (let lt = q.0 in omega arith, q.1))) (number_same x n);
 }
 
--- n hasn't
+-- n has not
 pub listed_same : (P : ℕ → Type 0) (n : ℕ) (xs : List ℕ) → Lists (λ x. (x < n) × P x) xs → ¬ P n → Lists (λ x. (x < n + 1) × P x) xs
 listed_same P n xs l np = record {
   rising = l.rising;

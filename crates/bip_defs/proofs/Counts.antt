@@ -10,7 +10,7 @@ use Rattle.bip_defs.proofs.Sets.{among_either, among_left, among_right, col_pair
 use Rattle.bip_defs.proofs.Square.{cols_apart, rows_apart, square_col_mate, square_col_matched, square_row_mate, square_row_matched}
 use Rattle.bip_defs.proofs.Transposed.{transpose_cols, transpose_is, turned_maximum, turned_length, vertical_col_turned, turned_vertical_col, vertical_turned, turned_vertical}
 
--- an equation of numbers that can't fail holds
+-- an equation of numbers that cannot fail holds
 stable : (x y : ℕ) → ¬ ¬ (x ≡ y) → x ≡ y
 stable x y h = elim (ℕ_discrete x y) [ yes e ↦ e | no ne ↦ absurd (h ne) ]
 

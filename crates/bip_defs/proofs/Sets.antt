@@ -400,7 +400,7 @@ beside_length n w rising below = (ap (λ (v : List ℕ). length v + length (besi
     same : w ≡ filter (λ x. list_any (nat_eq x) w) (upto n)
     same = lists_unique (λ x. Among x w) w (filter (λ x. list_any (nat_eq x) w) (upto n)) (record { rising = rising; sound = λ x h. h; complete = λ x h. h }) (lists_same (λ x. (x < n) × (list_any (nat_eq x) w ≡ true)) (λ x. Among x w) (filter (λ x. list_any (nat_eq x) w) (upto n)) (λ x h. (among_test x w).0 h.1) (λ x h. (below x h, (among_test x w).1 h)) (filter_lists (λ x. list_any (nat_eq x) w) n))
 
--- the numbers below n that have P can't fail to be a list
+-- the numbers below n that have P cannot fail to be a list
 listed_below : (P : ℕ → Type 0) (n : ℕ) → ¬ ¬ ((xs : List ℕ) × Lists (λ x. (x < n) × P x) xs)
 listed_below P zero none = none ([], record { rising = tt; sound = λ x h. elim h [ ]; complete = λ x h. absurd (omega (arith, h.0)) })
 listed_below P (suc n) none = listed_below P n (λ s. none (s.0, without s (λ p. none (s.0 ++ n ∷ [], with_last s p))))

@@ -40,7 +40,7 @@ block_col_square a b c x h = chain_square a x.1.square (x.1.cols.sound c h)
 pub blocks_share_row : (a : Matrix) (b d : Block) (r : ℕ) → IsBlock a b → IsBlock a d → Among r b.rows → Among r d.rows → b ≡ d
 blocks_share_row a b d r x y h k = class_same a x.0 y.0 b d x.1 y.1 (chain_join a (x.1.rows.sound r h) (chain_back a (y.1.rows.sound r k)))
 
--- a row or a column of the square part can't fail to be in a block
+-- a row or a column of the square part cannot fail to be in a block
 in_block : (a : Matrix) (v : Vertex) (bs : List Block) → AreBlocksOf a bs → IsSquareVertex a v → ¬ ¬ ((b : Block) × Among b bs × IsClassOf a v b)
 in_block a v bs blocks square none = listed (λ r. Chain a v (RowAt r)) a.rows (λ r k. (chain_square a square k).0) (λ rows.
     listed (λ c. Chain a v (ColAt c)) (cols a) (λ c k. (chain_square a square k).0) (λ columns.

@@ -8,7 +8,7 @@ ghost use Rattle.bip_defs.specs.Matrix.{IsEntry, Matrix, Place, cols, neighbours
 /// Where columns are more than their neighbours above a weight, every perfect matching has a pair
 /// of at most that weight.
 ///
-/// Those columns can't all be matched above the weight (Hall 1935).
+/// Those columns cannot all be matched above the weight (Hall 1935).
 pub fn few_neighbours_bound_the_least_weight()
     ensures { (a : Matrix) (weight : ℕ → ℕ → ℕ) (least : ℕ) (w : List ℕ) (m : List Place)
         → IsRising w → ((c : ℕ) → Among c w → c < cols a)

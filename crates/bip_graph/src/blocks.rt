@@ -51,7 +51,7 @@ impl Blocks {
     /// No blocks, with room for so many, of so many rows and so many columns in all: until then no
     /// `push` copies what is there.
     ///
-    /// Answers `OutOfMemory` where that room can't be had.
+    /// Returns `OutOfMemory` if it cannot allocate that room.
     pub fn with_room(
         alloc: Global,
         blocks: usize,

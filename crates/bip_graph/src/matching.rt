@@ -43,7 +43,7 @@ impl Model for Matching {
 impl Matching {
     /// The matching without pairs, of so many rows and columns.
     ///
-    /// Answers `OutOfMemory` where the two arrays can't be had. Work: one write for each row and
+    /// Returns `OutOfMemory` if it cannot allocate the two arrays. Work: one write for each row and
     /// column.
     pub fn empty(alloc: Global, rows: u32, cols: u32) -> Result<Self, OutOfMemory>
         ensures { IfOk result (λ m. m ≡ record { rows = rows; cols = cols; pairs = [] }) }
@@ -59,7 +59,7 @@ impl Matching {
 
     /// A matching with the same rows, columns and pairs.
     ///
-    /// Answers `OutOfMemory` where the two arrays can't be had. Work: one copy of both.
+    /// Returns `OutOfMemory` if it cannot allocate the two arrays. Work: one copy of both.
     pub fn copy(&self, alloc: Global) -> Result<Self, OutOfMemory>
         ensures { IfOk result (λ m. m ≡ self.now) }
     {
@@ -125,8 +125,8 @@ impl Matching {
 
     /// The pairs, rising by column.
     ///
-    /// Answers `OutOfMemory` where the list, 8 bytes a pair, can't be had. Work: one read for each
-    /// column.
+    /// Returns `OutOfMemory` if it cannot allocate the list, 8 bytes a pair. Work: one read for
+    /// each column.
     pub fn pairs(&self, alloc: Global) -> Result<Vec<(Row, Col)>, OutOfMemory>
         ensures { IfOk result (λ pairs. pairs.items ≡ self.now.pairs) }
     {

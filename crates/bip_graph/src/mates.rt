@@ -39,7 +39,7 @@ impl Model for Mates {
 impl Mates {
     /// No mates, of so many rows and columns.
     ///
-    /// Answers `OutOfMemory` where the two arrays can't be had. Work: one write for each row and
+    /// Returns `OutOfMemory` if it cannot allocate the two arrays. Work: one write for each row and
     /// column.
     pub fn empty(alloc: Global, rows: u32, cols: u32) -> Result<Self, OutOfMemory>
         ensures { IfOk result

@@ -26,10 +26,10 @@ use std::alloc::Global;
 ///
 /// The weights must be those of the pattern. `Rectangular` exactly where the matrix has not as many
 /// rows as columns; `Singular` exactly where it has, and its rank is less, with the columns that
-/// some maximum matching misses. Answers `OutOfMemory` where there is no memory for 8 bytes an
-/// entry, the pattern of the entries above a weight and what a maximum matching takes. Work: at
-/// most three maximum matchings and one search where the first matching is best already, and else
-/// at most as many more as the number of distinct weights has binary digits.
+/// some maximum matching misses. Returns `OutOfMemory` if it cannot allocate 8 bytes an entry, the
+/// pattern of the entries above a weight and what a maximum matching takes. Work: at most three
+/// maximum matchings and one search where the first matching is best already, and else at most as
+/// many more as the number of distinct weights has binary digits.
 pub fn best(alloc: Global, pattern: &Pattern, weights: &Weights) -> Result<Bottleneck, OutOfMemory>
     requires { weights.now.matrix ≡ pattern.now }
     ensures { IfOk result (IsBottleneck weights.now) }

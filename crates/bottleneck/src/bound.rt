@@ -60,7 +60,7 @@ fn raise_rows(weights: &Weights, of_rows: &mut [u64], col: Col) -> u64
 
 /// A matching of entries that weigh at least this much, as many as there can be.
 ///
-/// Answers `OutOfMemory` where the pattern of these entries can't be had, or what a maximum
+/// Returns `OutOfMemory` if it cannot allocate the pattern of these entries, or what a maximum
 /// matching of it takes. Work: that of both.
 pub fn bounded_matching(
     alloc: Global,

@@ -26,11 +26,11 @@ use std::thread::Threads;
 /// Of w workers, the worker i has the places from `i * l / w` up to `(i + 1) * l / w` of a list of
 /// l free rows; it calls `gate.arrive(i)` once, whether its share is empty or not. Workers run at
 /// once where there is enough to do (`share_work`), as far as threads can be had, and want of a
-/// thread changes nothing. A row that is claimed
-/// already, or is listed twice, is not claimed again. Answers `OutOfMemory` where a fresh list
-/// can't grow: what is listed then stands, and the level is not done. Memory: 8 bytes for each
-/// fresh claim and win, and 8 KiB of the stack for each worker. Work: at most two looks at each
-/// entry of the free rows, and two exchanges for each of these rows.
+/// thread changes nothing. A row that is claimed already, or is listed twice, is not claimed again.
+/// Returns `OutOfMemory` if a fresh list cannot grow: what is listed then stands, and the level
+/// is not done. Memory: 8 bytes for each fresh claim and win, and 8 KiB of the stack for each
+/// worker. Work: at most two looks at each entry of the free rows, and two exchanges for each of
+/// these rows.
 ///
 /// The search is the bottom-up step of Azad, Buluç and Pothen, Computing maximum cardinality
 /// matchings in parallel on bipartite graphs via tree-grafting, 2017.

@@ -35,13 +35,13 @@ use std::alloc::Global;
 /// A maximum matching, in which every row and column that was matched before is matched.
 ///
 /// Phases search from the side on which fewer unmatched rows or columns have entries, and from the
-/// columns where they are as many. The matching must be of the pattern's entries and sizes. Answers
-/// `OutOfMemory` where there is no memory for 12 bytes a vertex of the side that is searched from
-/// and 9 a vertex of the other, for phases of shortest paths 8 more of the first, with what two
-/// growing lists of vertices take; the matching is dropped then. Work: one look at each row and
-/// column, and at most one pass over the entries for each phase. All but the last make the matching
-/// larger. They are at most 128, and then at most 2 sqrt(rank) + 2 of shortest paths, of two passes
-/// each, the last of which makes a pass more.
+/// columns where they are as many. The matching must be of the pattern's entries and sizes. Returns
+/// `OutOfMemory` if it cannot allocate 12 bytes a vertex of the side that is searched from and 9 a
+/// vertex of the other, for phases of shortest paths 8 more of the first, with what two growing
+/// lists of vertices take; the matching is dropped then. Work: one look at each row and column, and
+/// at most one pass over the entries for each phase. All but the last make the matching larger.
+/// They are at most 128, and then at most 2 sqrt(rank) + 2 of shortest paths, of two passes each,
+/// the last of which makes a pass more.
 pub fn complete(
     alloc: Global,
     pattern: &Pattern,

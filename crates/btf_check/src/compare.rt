@@ -14,8 +14,8 @@ use std::alloc::Global;
 /// Whether a list has each of the numbers `once`, which are below the bound, exactly once, in any
 /// order.
 ///
-/// Answers `OutOfMemory` where a byte for each number below the bound can't be had. Work: a look at
-/// each number of both lists, if they have one length.
+/// Returns `OutOfMemory` if it cannot allocate a byte for each number below the bound. Work: a look
+/// at each number of both lists, if they have one length.
 pub(crate) fn are_once<N: Id>(
     alloc: Global,
     bound: u32,

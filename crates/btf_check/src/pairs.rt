@@ -13,7 +13,7 @@ use std::alloc::Global;
 
 /// The matching of these pairs, unless one is no entry or two share a row.
 ///
-/// Answers `OutOfMemory` where 4 bytes a row and 4 a column can't be had. Work: one search in a
+/// Returns `OutOfMemory` if it cannot allocate 4 bytes a row and 4 a column. Work: one search in a
 /// column for each pair.
 pub(crate) fn matching_of(
     alloc: Global,

@@ -18,7 +18,7 @@ use std::thread::Threads;
 /// report's own pairs, with its connected components for version 2. No search is made twice: those
 /// for the coarse parts also tell whether the pairs are a maximum matching.
 ///
-/// Answers `OutOfMemory` where the report's lists or an analysis of the matrix can't be had. The
+/// Returns `OutOfMemory` if it cannot allocate the report's lists or an analysis of the matrix. The
 /// lists grow with the bytes that are read, to 4 bytes a row or column and 8 a pair, block or
 /// component. All tables are as long as the matrix has rows or columns: a number of the text
 /// reserves nothing, and a list of another length than the matrix's own is refused before a table

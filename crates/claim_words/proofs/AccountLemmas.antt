@@ -9,7 +9,7 @@ use Rattle.bip_defs.proofs.Sets.{number_same}
 use Rattle.bip_defs.proofs.WordValues.{held_grows}
 use Rattle.claim_words.specs.Accounts.{Accounts}
 
--- a word that was opened with a value isn't empty
+-- a word that was opened with a value is not empty
 opened_empty : (opened now : List (Option ℕ)) (i : ℕ) → ((x : ℕ) → held opened i ≡ Some x → held now i ≡ Some x) → held now i ≡ None → held opened i ≡ None
 opened_empty opened now i stays empty = by (held opened i) refl
   where

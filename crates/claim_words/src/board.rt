@@ -126,7 +126,7 @@ fn laid(alloc: Global, rows: &[Option<Col>], roots: &[Option<Row>]) -> Result<Ve
 
 impl ClaimBoard {
     /// A board whose words hold these values, the rows' and the roots', and so many seats, numbered
-    /// from 0. Answers `OutOfMemory` where 8 bytes a word, twice for a moment, can't be had.
+    /// from 0. Returns `OutOfMemory` if it cannot allocate 8 bytes a word, twice for a moment.
     pub fn new(
         alloc: Global,
         rows: &[Option<Col>],

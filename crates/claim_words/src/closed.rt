@@ -81,8 +81,9 @@ impl ClaimBoard {
         })
     }
 
-    /// Closes the board with the seats of all its workers, and says what `close` says. Answers
-    /// `OutOfMemory` where the list of these seats can't be had; board and workers are dropped then.
+    /// Closes the board with the seats of all its workers, and says what `close` says. Returns
+    /// `OutOfMemory` if it cannot allocate the list of these seats; board and workers are dropped
+    /// then.
     pub fn close_with(self, alloc: Global, workers: Vec<Worker>) -> Result<Closed, OutOfMemory>
         requires { AreAllWorkers self workers.items }
         ensures { IfOk result (λ words. SettlesAll self words (seats_of workers.items)) }

@@ -55,7 +55,7 @@ impl Worker {
     }
 
     /// Claims a row for a column, as the board does, and notes what is got in the fresh list.
-    /// Answers `OutOfMemory` where that list can't grow; then no step was made.
+    /// Returns `OutOfMemory` if that list cannot grow; then no step was made.
     pub fn claim(&mut self, board: &ClaimBoard, row: Row, col: Col) -> Result<Claimed, OutOfMemory>
         requires seat { self.old.seat.board ≡ board.now }
         requires row { row < length board.now.rows }
@@ -77,7 +77,7 @@ impl Worker {
     }
 
     /// Wins a root for a leaf, as the board does, and notes what is got in the fresh list. Answers
-    /// `OutOfMemory` where that list can't grow; then no step was made.
+    /// `OutOfMemory` where that list cannot grow; then no step was made.
     pub fn win(&mut self, board: &ClaimBoard, root: Col, leaf: Row) -> Result<Won, OutOfMemory>
         requires seat { self.old.seat.board ≡ board.now }
         requires root { root < length board.now.roots }

@@ -23,11 +23,11 @@ use std::alloc::Global;
 /// By labels, class by class ([`number_components`]): of the horizontal part over the lists of its
 /// columns, and of the vertical part over those of its rows. A part that is empty costs nothing.
 ///
-/// Answers `OutOfMemory` where 4 bytes a row and a column can't be had for a part, and beside them 8
-/// to 24 a label and a contact of labels; then 4 a row and a column and 8 a component to gather
-/// them, and as much for their lists. Work: each entry of a column of the horizontal and of a row of
-/// the vertical part is looked at twice, and each row and column a fixed number of times, and once
-/// more for each so many contacts as are an eighth of the rows and columns.
+/// Returns `OutOfMemory` if it cannot allocate 4 bytes a row and a column for a part, and beside
+/// them 8 to 24 a label and a contact of labels; then 4 a row and a column and 8 a component to
+/// gather them, and as much for their lists. Work: each entry of a column of the horizontal and of
+/// a row of the vertical part is looked at twice, and each row and column a fixed number of times,
+/// and once more for each so many contacts as are an eighth of the rows and columns.
 pub fn components(
     alloc: Global,
     pattern: &Pattern,

@@ -14,8 +14,8 @@ use std::alloc::Global;
 /// The horizontal columns, rising, by a maximum matching and marks of the horizontal rows: the
 /// unmatched columns, and the mates of these rows (Dulmage and Mendelsohn 1958).
 ///
-/// No entry is looked at. Answers `OutOfMemory` where the list can't be had, 4 bytes a horizontal
-/// column. Work: one look at each column and its mate.
+/// No entry is looked at. Returns `OutOfMemory` if it cannot allocate the list, 4 bytes a
+/// horizontal column. Work: one look at each column and its mate.
 pub fn horizontal_cols(
     alloc: Global,
     pattern: &Pattern,

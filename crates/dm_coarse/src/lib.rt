@@ -35,7 +35,7 @@ use std::thread::Threads;
 /// the other. The rows of the horizontal part are the mates of its columns, the columns of the
 /// vertical part those of its rows, and the square part has the rest.
 ///
-/// Answers `OutOfMemory` where 9 bytes a row and 9 a column can't be had for the searches, or 4
+/// Returns `OutOfMemory` if it cannot allocate 9 bytes a row and 9 a column for the searches, or 4
 /// each for the lists. Work: each entry is looked at twice at most, and each row and column a fixed
 /// number of times.
 pub fn coarse<R: Threads + Sync>(
@@ -73,9 +73,9 @@ pub fn coarse_in_turn(
 /// [`coarse`], where the last phase's marks are known: by one search, from the other side.
 ///
 /// The horizontal columns are the unmatched ones and the mates of the horizontal rows, and the
-/// vertical rows the unmatched ones and the mates of the vertical columns. Answers `OutOfMemory`
-/// where 9 bytes for each row or column on the side of the marks and 1 for each on the other can't
-/// be had, or 4 each for the lists. Work: each entry is looked at once at most, and each row and
+/// vertical rows the unmatched ones and the mates of the vertical columns. Returns `OutOfMemory` if
+/// it cannot allocate 9 bytes for each row or column on the side of the marks and 1 for each on the
+/// other, or 4 each for the lists. Work: each entry is looked at once at most, and each row and
 /// column a fixed number of times.
 pub fn coarse_by_marks(
     alloc: Global,

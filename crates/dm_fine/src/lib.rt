@@ -28,7 +28,7 @@ use std::alloc::Global;
 /// They are numbered by their least columns, and put in order by a topological sort that takes the
 /// least source.
 ///
-/// Answers `OutOfMemory` where 4 bytes a row and 24 a column can't be had for the components, or
+/// Returns `OutOfMemory` if it cannot allocate 4 bytes a row and 24 a column for the components, or
 /// then 8 a row, 12 a column and 20 a block. Work: each entry of a square column is looked at three
 /// times at most and each of a square row twice, and each row, column and block a fixed number of
 /// times, but that a block looks at some words of the set of those that come next.

@@ -37,8 +37,8 @@ pub fn by_least_column(
     Ok(components)
 }
 
-// Gives the numbers below the count anew, by the first places where they stand, and tells how many
-// there are. Other numbers stay as they are.
+// Gives the numbers below the count anew, by the first places where they stand, and returns how
+// many there are. Other numbers stay as they are.
 fn by_first_place(alloc: Global, numbers: &mut [u32], count: u32) -> Result<u32, OutOfMemory>
     requires few { length numbers.old < 2 ^ 32 }
     ensures { IfOk result (λ n. AreRenumbered numbers.old count numbers.new n) }

@@ -69,8 +69,8 @@ impl FlipBoard {
     /// the root of its tree, or none. Nothing is taken or set. With it come as many seats as are
     /// asked for, from 1 to 64, numbered from 0.
     ///
-    /// Answers `OutOfMemory` where the words or the seats can't be had. While it works it holds the
-    /// words twice. Work: one write for each word.
+    /// Returns `OutOfMemory` if it cannot allocate the words or the seats. While it works it holds
+    /// the words twice. Work: one write for each word.
     pub fn new(
         alloc: Global,
         matching: &Matching,
@@ -253,8 +253,8 @@ impl FlipBoard {
     /// The mates, once all seats are back, in any order: those with which the board was opened,
     /// changed by what the seats have set.
     ///
-    /// Where the two arrays of the mates can't be had, the board and the seats are handed back as
-    /// they were. Work: one read and one write for each row and each column.
+    /// Where the two arrays of the mates cannot be allocated, the board and the seats are handed
+    /// back as they were. Work: one read and one write for each row and each column.
     pub fn close(
         self,
         alloc: Global,

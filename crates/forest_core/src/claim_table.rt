@@ -37,7 +37,8 @@ impl Model for ClaimTable {
 }
 
 impl ClaimTable {
-    /// So many rows, none of which is claimed. Answers `OutOfMemory` where the table can't be had.
+    /// So many rows, none of which is claimed. Returns `OutOfMemory` if it cannot allocate the
+    /// table.
     pub fn new(alloc: Global, rows: u32) -> Result<ClaimTable, OutOfMemory>
         ensures length { IfOk result (λ t. length t.holders ≡ rows) }
         ensures holders { IfOk result (λ t. (r : ℕ) → beside t.holders r ≡ None) }

@@ -68,8 +68,8 @@ impl<'p> Model for Forest<'p> {
 impl<'p> Forest<'p> {
     /// The forest over a matching of entries of the pattern: no row is claimed.
     ///
-    /// Answers `OutOfMemory` where the room for all later claims and leaves can't be had. Work: one
-    /// write for each row and column.
+    /// Returns `OutOfMemory` if it cannot allocate the room for all later claims and leaves. Work:
+    /// one write for each row and column.
     pub fn new(
         alloc: Global,
         pattern: &'p Pattern,
@@ -102,7 +102,7 @@ impl<'p> Forest<'p> {
         self.pattern
     }
 
-    /// The base matching. Flips don't change it; a graft or a rebuild renews it.
+    /// The base matching. Flips do not change it; a graft or a rebuild renews it.
     pub fn base(&self) -> &Matching
         ensures { result.now ≡ base_of self.now }
     {

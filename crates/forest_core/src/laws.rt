@@ -35,7 +35,7 @@ pub fn runs_join()
     ensures matrix { (s t : State) → LeadsTo s t → t.matrix ≡ s.matrix }
 {}
 
-/// No event changes the matrix, and claims and wins don't change the base matching nor what is
+/// No event changes the matrix, and claims and wins do not change the base matching nor what is
 /// flipped.
 pub fn events_keep_the_matrix()
     ensures event { (s t : State) (e : Event) → Becomes s e t → t.matrix ≡ s.matrix }

@@ -16,7 +16,7 @@ use std::alloc::Global;
 impl<'p> Forest<'p> {
     /// By row the column that claimed it, where the row is claimed.
     ///
-    /// Answers `OutOfMemory` where 8 bytes a row can't be had. Work: one look at each row.
+    /// Returns `OutOfMemory` if it cannot allocate 8 bytes a row. Work: one look at each row.
     pub fn row_holders(&self, alloc: Global) -> Result<Vec<Option<Col>>, OutOfMemory>
         ensures long { IfOk result (λ list. length list.items ≡ self.now.matrix.rows) }
         ensures holders { IfOk result (λ list. IsTableOf self.now.claims list.items) }
@@ -32,7 +32,7 @@ impl<'p> Forest<'p> {
 
     /// By column its leaf, where it is a root with a leaf.
     ///
-    /// Answers `OutOfMemory` where 8 bytes a column can't be had. Work: one look at each column.
+    /// Returns `OutOfMemory` if it cannot allocate 8 bytes a column. Work: one look at each column.
     pub fn root_leaves(&self, alloc: Global) -> Result<Vec<Option<Row>>, OutOfMemory>
         ensures long { IfOk result (λ list. length list.items ≡ cols self.now.matrix) }
         ensures leaves { IfOk result (λ list. IsTableOf self.now.leaves list.items) }
@@ -48,7 +48,7 @@ impl<'p> Forest<'p> {
 
     /// By row the root of its tree, where the row is claimed.
     ///
-    /// Answers `OutOfMemory` where 8 bytes a row can't be had. Work: one look at each row.
+    /// Returns `OutOfMemory` if it cannot allocate 8 bytes a row. Work: one look at each row.
     pub fn row_trees(&self, alloc: Global) -> Result<Vec<Option<Col>>, OutOfMemory>
         ensures long { IfOk result (λ list. length list.items ≡ self.now.matrix.rows) }
         ensures roots { IfOk result (λ list. AreRowTrees self.now list.items) }
@@ -64,8 +64,8 @@ impl<'p> Forest<'p> {
 
     /// By column the root of its tree, where the column is in the forest.
     ///
-    /// Answers `OutOfMemory` where 8 bytes a column can't be had. Work: one look at each column and
-    /// at its mate.
+    /// Returns `OutOfMemory` if it cannot allocate 8 bytes a column. Work: one look at each column
+    /// and at its mate.
     pub fn col_trees(&self, alloc: Global) -> Result<Vec<Option<Col>>, OutOfMemory>
         ensures long { IfOk result (λ list. length list.items ≡ cols self.now.matrix) }
         ensures roots { IfOk result (λ list. AreColTrees self.now list.items) }

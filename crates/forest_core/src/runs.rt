@@ -31,7 +31,7 @@ fn make(forest: &mut Forest, event: Event)
 /// Makes events on a new forest, up to the first that is not legal. The forest that they leave, and
 /// how many were made.
 ///
-/// Answers `OutOfMemory` where the forest can't be had. Work: as of `may` and of the events.
+/// Returns `OutOfMemory` if it cannot allocate the forest. Work: as of `may` and of the events.
 pub fn every_run<'p>(
     alloc: Global,
     pattern: &'p Pattern,

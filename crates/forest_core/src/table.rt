@@ -26,7 +26,8 @@ impl Model for Table {
 }
 
 impl Table {
-    /// So many numbers with none beside them. Answers `OutOfMemory` where the table can't be had.
+    /// So many numbers with none beside them. Returns `OutOfMemory` if it cannot allocate the
+    /// table.
     pub fn new(alloc: Global, len: u32) -> Result<Table, OutOfMemory>
         ensures length { IfOk result (λ t. length t ≡ len) }
         ensures none { IfOk result (λ t. (k : ℕ) → beside t k ≡ None) }

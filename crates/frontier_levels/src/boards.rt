@@ -18,7 +18,7 @@ use std::thread::{Threads, join};
 /// seat. Where there are two workers at least and rows and columns together are worth threads, as
 /// `worth_threads` of them are, its lists are filled by two threads at once.
 ///
-/// Answers `OutOfMemory` where 24 bytes a row and column can't be had; 8 of them stay, until the
+/// Returns `OutOfMemory` if it cannot allocate 24 bytes a row and column; 8 of them stay, until the
 /// board is closed. Work: one look at each row and column.
 pub fn open<R: Threads + Sync>(
     rt: &R,

@@ -27,10 +27,10 @@ use std::thread::Threads;
 /// Of w workers, the worker i has the places from `i * l / w` up to `(i + 1) * l / w` of a frontier
 /// of l columns; it calls `gate.arrive(i)` once, whether its share is empty or not. Workers run at
 /// once where there is enough to do (`share_work`), as far as threads can be had, and want of a
-/// thread changes nothing. Answers `OutOfMemory` where a fresh list can't grow: what is listed then stands, and the level is not done. Memory: 8
-/// bytes for each fresh claim and win, and 8 KiB of the stack for each worker. Work: one look at
-/// each entry of the frontier's columns, and one more look and two exchanges at most for each row
-/// that nobody is seen to hold.
+/// thread changes nothing. Returns `OutOfMemory` if a fresh list cannot grow: what is listed
+/// then stands, and the level is not done. Memory: 8 bytes for each fresh claim and win, and 8 KiB
+/// of the stack for each worker. Work: one look at each entry of the frontier's columns, and one
+/// more look and two exchanges at most for each row that nobody is seen to hold.
 ///
 /// The search is the top-down step of Azad, Buluç and Pothen, Computing maximum cardinality
 /// matchings in parallel on bipartite graphs via tree-grafting, 2017.

@@ -39,8 +39,8 @@ impl Model for IntSet {
 impl IntSet {
     /// The empty set of numbers below `bound`.
     ///
-    /// It takes `bound / 8` bytes and a little more, and writes them. Answers `OutOfMemory` where
-    /// these can't be had.
+    /// It takes `bound / 8` bytes and a little more, and writes them. Returns `OutOfMemory` if
+    /// these cannot be allocated.
     pub fn new(alloc: Global, bound: u32) -> Result<IntSet, OutOfMemory>
         ensures { IfOk result (λ s. s ≡ record { bound = bound; members = [] }) }
     {

@@ -32,7 +32,7 @@ use std::alloc::Global;
 /// number shows in the same way whether one other neighbour is left alone, and which: only where
 /// more are left, the list is looked at.
 ///
-/// Answers `OutOfMemory` where its tables can't be had: 8 bytes a row and 8 a column for the
+/// Returns `OutOfMemory` if it cannot allocate its tables: 8 bytes a row and 8 a column for the
 /// matching and the sums, and an eighth of a byte each for the waiting ones. Work: each entry is
 /// looked at five times at most, twice where sums are added up, twice where sums are lowered and
 /// once where a column with more neighbours is looked for, and a row or column goes in and out of a

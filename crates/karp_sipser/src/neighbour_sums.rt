@@ -33,7 +33,7 @@ pub struct NeighbourSums {
 impl NeighbourSums {
     /// Where nothing is matched.
     ///
-    /// Answers `OutOfMemory` where its tables can't be had: 4 bytes and an eighth of a byte a
+    /// Returns `OutOfMemory` if it cannot allocate its tables: 4 bytes and an eighth of a byte a
     /// vertex. Work: one look at each entry.
     pub fn new<I: Id, S: Side<I>>(
         alloc: Global,

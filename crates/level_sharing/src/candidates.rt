@@ -18,7 +18,7 @@ use sp_ids::OutOfMemory;
 /// and then many claims are faster than each claim after its look.
 ///
 /// Afterwards it knows a holder of each row, or a leaf of its root. Answers `OutOfMemory` where one
-/// of its fresh lists can't grow; what is listed then stands. Work: one look and two exchanges at
+/// of its fresh lists cannot grow; what is listed then stands. Work: one look and two exchanges at
 /// most for each.
 pub fn claim_all(
     board: &ClaimBoard,

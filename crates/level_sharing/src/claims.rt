@@ -16,7 +16,7 @@ use sp_ids::OutOfMemory;
 /// has a leaf.
 ///
 /// In either case it knows a holder of the row then. Answers `OutOfMemory` where one of its fresh
-/// lists can't grow; what is listed then stands. Work: two exchanges at most.
+/// lists cannot grow; what is listed then stands. Work: two exchanges at most.
 pub fn claim_row(
     board: &ClaimBoard,
     worker: &mut Worker,

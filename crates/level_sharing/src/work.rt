@@ -109,7 +109,7 @@ pub fn work_at_once<R: Threads + Sync, G: Gate, T: Send, E: Send + Drop, W: Work
     work_from(rt, gate, work, 0, threads, workers)
 }
 
-/// How many processors the program may use, or 1 where that can't be told. It is asked of the
+/// How many processors the program may use, or 1 where that cannot be told. It is asked of the
 /// system each time, at the cost of some calls.
 pub fn processors<R: Threads>(rt: &R) -> usize
     ensures { 1 ≤ result }

@@ -21,8 +21,8 @@ use std::alloc::Global;
 
 /// A maximum matching, in which every row and column that was matched before is matched.
 ///
-/// The matching must be of the pattern's entries and sizes. Answers `OutOfMemory` where there is no
-/// memory for 17 bytes a row and 4 a column; the matching is dropped then. Work: one pass over the
+/// The matching must be of the pattern's entries and sizes. Returns `OutOfMemory` if it cannot
+/// allocate 17 bytes a row and 4 a column; the matching is dropped then. Work: one pass over the
 /// entries for all failed searches together, one for all look-aheads, and at most one for each
 /// successful search (Duff 1981).
 pub fn complete(

@@ -29,8 +29,9 @@ struct Ends<'c> {
 /// Numbers the classes of labels from 0 on, by their least labels.
 ///
 /// Searches from one label after the other, over the contacts of each, which are listed for both
-/// ends. Takes 16 bytes a label and 8 a contact. Answers `OutOfMemory` where these can't be had, or
-/// there are 2^32 contacts. Work: a fixed number of looks at each label and each contact.
+/// ends. Takes 16 bytes a label and 8 a contact. Returns `OutOfMemory` if these cannot be
+/// allocated, or there are 2^32 contacts. Work: a fixed number of looks at each label and each
+/// contact.
 pub fn number_classes(alloc: Global, contacts: &Contacts) -> Result<Classes, OutOfMemory>
     requires { AreEnds contacts.now }
     ensures { IfOk result (λ k. AreClasses contacts.now k.count k.numbers.items) }
@@ -58,7 +59,7 @@ fn list_ends<'c>(alloc: Global, contacts: &'c Contacts) -> Result<Ends<'c>, OutO
     })
 }
 
-// Numbers all classes, and tells how many they are.
+// Numbers all classes, and returns how many they are.
 fn number_all(alloc: Global, ends: &Ends, numbers: &mut [u32]) -> Result<u32, OutOfMemory>
     requires ends { AreEndLists ends.now.contacts.now ends.now }
     requires long { length numbers.old ≡ ends.now.contacts.now.count }
@@ -73,8 +74,8 @@ fn number_all(alloc: Global, ends: &Ends, numbers: &mut [u32]) -> Result<u32, Ou
     Ok(count)
 }
 
-// Gives the next number to the class of this label, if it has none, and tells how many numbers were
-// given then.
+// Gives the next number to the class of this label, if it has none, and returns how many numbers
+// were given then.
 fn number_next(
     ends: &Ends,
     label: u32,

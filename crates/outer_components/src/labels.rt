@@ -16,7 +16,7 @@ use sp_ids::{Col, Id, OutOfMemory};
 use std::alloc::Global;
 
 /// Writes the number of its component in place of no label for each row and column of the part, and
-/// tells how many components there are.
+/// returns how many components there are.
 pub fn label_all<F: Id, N: Id, L: ColumnLists<F>>(
     alloc: Global,
     lists: &L,

@@ -38,10 +38,10 @@ pub struct Numbers {
 ///
 /// It takes 4 bytes a row and 4 a column, which are kept; and beside them 16 bytes a label and 32 a
 /// contact while classes are made. There are at most as many labels as columns of the part, and at
-/// most as many contacts as labels, or an eighth of the rows and columns, and the rows of one column
-/// more. Answers `OutOfMemory` where that can't be had, or where 2^32 contacts came together. Work:
-/// two looks at each entry of a column of the part, a fixed number of looks at each row and column,
-/// and at most a fixed number for each contact.
+/// most as many contacts as labels, or an eighth of the rows and columns, and the rows of one
+/// column more. Returns `OutOfMemory` if that cannot be allocated, or where 2^32 contacts came
+/// together. Work: two looks at each entry of a column of the part, a fixed number of looks at each
+/// row and column, and at most a fixed number for each contact.
 pub fn number_components<F: Id, N: Id, L: ColumnLists<F>>(
     alloc: Global,
     lists: &L,

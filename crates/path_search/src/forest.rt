@@ -52,7 +52,7 @@ impl Model for SearchForest {
 impl SearchForest {
     /// For matrices of so many rows and columns, as a side sees them.
     ///
-    /// Answers `OutOfMemory` where the arrays can't be had.
+    /// Returns `OutOfMemory` if it cannot allocate the arrays.
     pub fn new(alloc: Global, rows: u32, cols: u32) -> Result<SearchForest, OutOfMemory>
         ensures cols { IfOk result (λ f. f.cols ≡ cols) }
         ensures rows { IfOk result (λ f. length f.marks ≡ rows) }
@@ -421,7 +421,7 @@ impl SearchForest {
         ensures ready { CanGrow (S.matrix side.now) (F.seen matching.new) self.new }
         ensures covered { Covers (F.seen matching.old).pairs (F.seen matching.new).pairs }
 
-        // Where the matching hasn't grown it was maximum, and the marked rows are the horizontal
+        // Where the matching has not grown it was maximum, and the marked rows are the horizontal
         // rows.
         ensures maximum { GrowsUnlessMaximum (S.matrix side.now) (F.seen matching.old)
             (F.seen matching.new) }

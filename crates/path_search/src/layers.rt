@@ -47,7 +47,7 @@ impl Model for Layers {
 impl Layers {
     /// For matrices of so many columns, as a side sees them.
     ///
-    /// Answers `OutOfMemory` where 8 bytes a column can't be had.
+    /// Returns `OutOfMemory` if it cannot allocate 8 bytes a column.
     pub fn new(alloc: Global, cols: u32) -> Result<Layers, OutOfMemory>
         ensures { IfOk result (AreLayers cols) }
     {
@@ -250,8 +250,8 @@ impl Layers {
     /// Makes the layers up to the first that has an entry in an unmatched row. Whether there is
     /// one.
     ///
-    /// Work: one look at each column, and at each entry of those in the layers. Answers
-    /// `OutOfMemory` where there is no memory for 4 bytes a column of two layers.
+    /// Work: one look at each column, and at each entry of those in the layers. Returns
+    /// `OutOfMemory` if it cannot allocate 4 bytes a column of two layers.
     pub fn make<F: Opposite, S: Side<F>>(
         &mut self,
         side: &S,

@@ -54,7 +54,8 @@ impl Model for Search {
 impl Search {
     /// For matrices of so many rows and columns, as a side sees them, with no row marked.
     ///
-    /// Answers `OutOfMemory` where the arrays can't be had, at most 17 bytes a row and 4 a column.
+    /// Returns `OutOfMemory` if it cannot allocate the arrays, at most 17 bytes a row and 4 a
+    /// column.
     pub fn new(alloc: Global, rows: u32, cols: u32) -> Result<Search, OutOfMemory>
         ensures cols { IfOk result (λ s. s.cols ≡ cols) }
         ensures rows { IfOk result (λ s. length s.marks ≡ rows) }
@@ -219,7 +220,7 @@ impl Search {
         self.descend(side, matching, at, reversed)
     }
 
-    // Goes down, or back where that isn't possible.
+    // Goes down, or back where that is not possible.
     fn advance<F: Opposite, S: Side<F>>(
         &mut self,
         side: &S,

@@ -21,8 +21,8 @@ impl SearchForest {
     /// The columns are put into layers up to the first in which a column has an entry in an
     /// unmatched row. From each unmatched column a depth-first search goes down by one layer with
     /// each row, and comes to no row twice. Where no path ends the matching stays; that none is
-    /// found is no proof here that the matching is maximum. Answers `OutOfMemory` where there is no
-    /// memory for 4 bytes a column of two layers; the matching is as before then. Work: one look at
+    /// found is no proof here that the matching is maximum. Returns `OutOfMemory` if it cannot
+    /// allocate 4 bytes a column of two layers; the matching is as before then. Work: one look at
     /// each row and column, and at each entry twice at most.
     pub fn shortest<F: Opposite, S: Side<F>>(
         &mut self,

@@ -40,7 +40,7 @@ pub fn count_roots<F: Opposite, S: Side<F>>(side: &S, matching: &Matching) -> u3
 
 /// The unmatched columns that have entries, as the side sees them.
 ///
-/// Answers `OutOfMemory` where there is no memory for 4 bytes each. Work: one look at each column.
+/// Returns `OutOfMemory` if it cannot allocate 4 bytes each. Work: one look at each column.
 pub fn roots<F: Opposite, S: Side<F>>(
     alloc: Global,
     side: &S,

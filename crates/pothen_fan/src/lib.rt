@@ -40,9 +40,9 @@ pub use sweep::phase_from;
 /// where it was maximum, and then it stays as it was.
 ///
 /// The matching must be of the pattern's entries and sizes, and no row or column loses its mate
-/// without a new one. Answers `OutOfMemory` where there is no memory for 17 bytes a row, 4 a column
-/// and 4 an unmatched column that has entries; the matching is as before then. Work: at most two
-/// passes over the entries, one of look-ahead and one of the searches.
+/// without a new one. Returns `OutOfMemory` if it cannot allocate 17 bytes a row, 4 a column and 4
+/// an unmatched column that has entries; the matching is as before then. Work: at most two passes
+/// over the entries, one of look-ahead and one of the searches.
 pub fn phase(alloc: Global, pattern: &Pattern, matching: &mut Matching) -> Result<u32, OutOfMemory>
     requires matching { IsMatchingOf pattern.now matching.old }
     ensures matching { IsMatchingOf pattern.now matching.new }
@@ -60,12 +60,12 @@ pub fn phase(alloc: Global, pattern: &Pattern, matching: &mut Matching) -> Resul
 /// Phases search from the side on which fewer unmatched rows or columns have entries, and from the
 /// columns where they are as many: depth-first as [`lengthen`] does, and then, unless the last of
 /// these found no path, as `breadth_first_match::complete` does. The matching must be of the
-/// pattern's entries and sizes. Answers `OutOfMemory` where there is no memory for 4 bytes a vertex
-/// of the side that is searched from, 4 more where it is unmatched and has entries, and 17 a vertex
-/// of the other side, or for what the other search takes after these are freed; the matching is
-/// dropped then. Work: one look at each row and column, at most two passes over the entries for
-/// each depth-first phase, and the work of the other search. All phases but the last of each kind
-/// make the matching larger.
+/// pattern's entries and sizes. Returns `OutOfMemory` if it cannot allocate 4 bytes a vertex of the
+/// side that is searched from, 4 more where it is unmatched and has entries, and 17 a vertex of the
+/// other side, or for what the other search takes after these are freed; the matching is dropped
+/// then. Work: one look at each row and column, at most two passes over the entries for each
+/// depth-first phase, and the work of the other search. All phases but the last of each kind make
+/// the matching larger.
 pub fn complete(
     alloc: Global,
     pattern: &Pattern,
@@ -113,10 +113,10 @@ pub fn complete_with_marks(
 /// It makes depth-first phases, at least one, from the side that `complete` searches from, and
 /// another after each that has matched at least half of what was unmatched and has entries. So it
 /// need not end at a maximum matching: it takes what is found fast. The matching must be of the
-/// pattern's entries and sizes. Answers `OutOfMemory` where there is no memory for 4 bytes a vertex
-/// of the side that is searched from, 4 more where it is unmatched and has entries, and 17 a vertex
-/// of the other side; the matching is dropped then. Work: one look at each row and column, and at
-/// most two passes over the entries for each phase.
+/// pattern's entries and sizes. Returns `OutOfMemory` if it cannot allocate 4 bytes a vertex of the
+/// side that is searched from, 4 more where it is unmatched and has entries, and 17 a vertex of the
+/// other side; the matching is dropped then. Work: one look at each row and column, and at most two
+/// passes over the entries for each phase.
 pub fn lengthen(
     alloc: Global,
     pattern: &Pattern,

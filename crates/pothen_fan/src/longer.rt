@@ -87,7 +87,7 @@ fn grow<F: Opposite, S: Side<F>>(
     ensures growth { length (F.seen matching.new).pairs
         ≡ length (F.seen matching.old).pairs + result }
 
-    // Where the matching hasn't grown it was maximum, and the marked rows are the horizontal rows.
+    // Where the matching has not grown it was maximum, and the marked rows are the horizontal rows.
     ensures maximum { GrowsUnlessMaximum (S.matrix side.now) (F.seen matching.old)
         (F.seen matching.new) }
     ensures marks { result ≡ 0 → MarkHorizontalRows (S.matrix side.now) search.new.marks }

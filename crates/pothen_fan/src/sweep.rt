@@ -20,9 +20,9 @@ use std::alloc::Global;
 ///
 /// Gives by how much the matching has grown: 0 exactly where it was maximum, and then it stays as
 /// it was. The matching must be of the entries and sizes that the side has, and no row or column
-/// loses its mate without a new one. Answers `OutOfMemory` where there is no memory for 17 bytes a
-/// row, 4 a column and 4 an unmatched column that has entries, as the side sees them; the matching
-/// is as before then. Work: at most two passes over the entries, one of look-ahead and one of the
+/// loses its mate without a new one. Returns `OutOfMemory` if it cannot allocate 17 bytes a row, 4
+/// a column and 4 an unmatched column that has entries, as the side sees them; the matching is as
+/// before then. Work: at most two passes over the entries, one of look-ahead and one of the
 /// searches.
 pub fn phase_from<F: Opposite, S: Side<F>>(
     alloc: Global,
@@ -59,7 +59,7 @@ pub fn sweep<F: Opposite, S: Side<F>>(
     ensures ready { CanSearch (S.matrix side.now) (F.seen matching.new) search.new }
     ensures covered { Covers (F.seen matching.old).pairs (F.seen matching.new).pairs }
 
-    // Where the matching hasn't grown it was maximum, and the marked rows are the horizontal rows.
+    // Where the matching has not grown it was maximum, and the marked rows are the horizontal rows.
     ensures maximum { GrowsUnlessMaximum (S.matrix side.now) (F.seen matching.old)
         (F.seen matching.new) }
     ensures marks { length (F.seen matching.new).pairs ≡ length (F.seen matching.old).pairs

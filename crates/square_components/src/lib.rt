@@ -30,9 +30,9 @@ pub struct Components {
 /// numbered in the order in which they are finished.
 ///
 /// One depth-first search with explicit stacks, which keeps the path of components that are not
-/// finished (Gabow 2000; Tarjan 1972). Answers `OutOfMemory` where 4 bytes a row and 24 a column
-/// can't be had. Work: each entry of a square column is looked at twice at most, and each row and
-/// column a fixed number of times.
+/// finished (Gabow 2000; Tarjan 1972). Returns `OutOfMemory` if it cannot allocate 4 bytes a row
+/// and 24 a column. Work: each entry of a square column is looked at twice at most, and each row
+/// and column a fixed number of times.
 pub fn strong_components(
     alloc: Global,
     pattern: &Pattern,

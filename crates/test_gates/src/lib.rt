@@ -30,7 +30,7 @@ pub struct BarrierGate {
 
 impl BarrierGate {
     /// A gate at which nobody has arrived, for at most 64 parties, who look 10,000,000 times at
-    /// most. Answers `OutOfMemory` where the counts can't be had.
+    /// most. Returns `OutOfMemory` if it cannot allocate the counts.
     pub fn new(alloc: Global, parties: u32) -> Result<BarrierGate, OutOfMemory> {
         BarrierGate::with_turns(alloc, parties, MAX_TURNS)
     }

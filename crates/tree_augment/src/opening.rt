@@ -20,9 +20,9 @@ use std::thread::{Threads, join};
 /// columns together are worth threads, as `worth_threads` of them are, the lists of trees are filled
 /// by two threads at once.
 ///
-/// Answers `OutOfMemory` where the board can't be had, which keeps 8 bytes for each row and 16 for
-/// each column, or for a moment as much again and 8 bytes for each row and each column. Work: one
-/// look at each row and each column, and one write for each word.
+/// Returns `OutOfMemory` if it cannot allocate the board, which keeps 8 bytes for each row and 16
+/// for each column, or for a moment as much again and 8 bytes for each row and each column. Work:
+/// one look at each row and each column, and one write for each word.
 pub fn open<R: Threads + Sync>(
     rt: &R,
     alloc: Global,
