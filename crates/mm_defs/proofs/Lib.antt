@@ -10,3 +10,4 @@ pub mod Prefixes
 pub mod Roles
 pub mod Rules
 pub mod SplitLemmas
+pub mod WordLemmas

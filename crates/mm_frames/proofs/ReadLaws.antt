@@ -13,8 +13,8 @@ use Rattle.mm_defs.proofs.Lines.{lines-none, open_line-none, lines-push_lf, open
 use Rattle.sp_ports.specs.Device.{Device}
 use Rattle.mm_reader.specs.Fronts.{Front, Stops, UsesByte}
 use Rattle.mm_reader.specs.Inputs.{OnCall}
-use Rattle.mm_reader.specs.KeptLines.{KeptLine}
-use Rattle.mm_reader.specs.Lines.{IsLine}
+use Rattle.mm_lines.specs.KeptLines.{KeptLine}
+use Rattle.mm_lines.specs.Lines.{IsLine}
 use Rattle.mm_frames.specs.declared.edit.Edit.{Edit}
 use Rattle.mm_defs.specs.EditLines.{edit_faults}
 use Rattle.mm_frames.specs.Edits.{ReadsEdits, RefusesEdits, first_bad_edit}

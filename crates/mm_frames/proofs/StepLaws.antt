@@ -10,8 +10,8 @@ use Rattle.mm_defs.specs.declared.kinds.Kind.TheVariants.{ShortFile}
 use Rattle.mm_defs.specs.Words.{has_bytes, is_lf, words}
 use Rattle.mm_defs.specs.Faults.{first_kind}
 use Rattle.mm_reader.specs.Fronts.{Front, IsOver, Stops, UsesByte}
-use Rattle.mm_reader.specs.KeptLines.{KeptLine}
-use Rattle.mm_reader.specs.Lines.{IsLine}
+use Rattle.mm_lines.specs.KeptLines.{KeptLine}
+use Rattle.mm_lines.specs.Lines.{IsLine}
 use Rattle.mm_frames.specs.declared.batch.BatchError.{BatchError}
 use Rattle.mm_frames.specs.declared.batch.BatchError.TheVariants as errors
 use Rattle.mm_frames.specs.declared.header.FrameHeader.{FrameHeader}

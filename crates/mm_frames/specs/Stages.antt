@@ -6,8 +6,8 @@ use Rattle.mm_defs.specs.Words.{lines, open_line, has_bytes}
 use Rattle.mm_defs.specs.Faults.{is_limit}
 use Rattle.sp_ports.specs.Bytes.{Gives}
 use Rattle.mm_reader.specs.Fronts.{Front}
-use Rattle.mm_reader.specs.KeptLines.{KeptLine}
-use Rattle.mm_reader.specs.Lines.{IsLine}
+use Rattle.mm_lines.specs.KeptLines.{KeptLine}
+use Rattle.mm_lines.specs.Lines.{IsLine}
 use Rattle.mm_frames.specs.declared.edit.Edit.{Edit}
 use Rattle.mm_defs.specs.EditLines.{edit_faults}
 use Rattle.mm_frames.specs.Edits.{edits_of}

@@ -8,7 +8,7 @@ ghost use Rattle.mm_defs.specs.Words.{words};
 ghost use Rattle.mm_defs.specs.Calls.{room};
 ghost use Rattle.mm_reader.specs.Fronts.{front};
 ghost use Rattle.mm_reader.specs.Inputs.{Asks, CanRead};
-ghost use Rattle.mm_reader.specs.Lines.{IsLine};
+ghost use Rattle.mm_lines.specs.Lines.{IsLine};
 ghost use Rattle.mm_frames.specs.Batches.{HasFrameKind, file_bytes, header_rules, is_frame_kind};
 ghost use Rattle.mm_frames.specs.Frames.{HeaderIs, IsSameStop, JudgedHeader};
 ghost use Rattle.mm_frames.specs.Readings.{Fares, GivesHeader, TellsHeader};

@@ -3,7 +3,7 @@
 ghost use Rattle.std.specs.Prelude.{◌≡◌, ◌<◌, ℕ, List, IfErr, IfOk, true};
 ghost use Rattle.mm_defs.specs.Words.{word, words};
 ghost use Rattle.mm_defs.specs.Numbers.{number};
-ghost use Rattle.mm_reader.specs.Lines.{IsLine};
+ghost use Rattle.mm_lines.specs.Lines.{IsLine};
 ghost use Rattle.mm_defs.specs.EditLines.{edit_place_rules, edit_rules};
 ghost use Rattle.mm_frames.specs.Edits.{edit, is_edit_kind, IsWithinMatrix};
 ghost use Rattle.mm_reader.specs.Judged.{JudgedPlace};

@@ -9,7 +9,7 @@ ghost use Rattle.mm_frames.specs.Edits.{HasEditKind, IsWithinMatrix, KeepsGood};
 ghost use Rattle.mm_frames.specs.Readings.{GivesEdits, TellsEdits};
 ghost use Rattle.mm_frames.specs.Stages.{AreRead, RefusesLast, StandsAfter, TakesLine};
 ghost use Rattle.mm_reader.specs.Inputs.{CanRead, Draws, FailsByReadFault};
-ghost use Rattle.mm_reader.specs.Lines.{IsLine};
+ghost use Rattle.mm_lines.specs.Lines.{IsLine};
 
 use crate::edit::Edit;
 use crate::judge::{Extent, judge_edit};

@@ -10,8 +10,8 @@ use Rattle.mm_reader.specs.declared.machine.Machine.{Machine}
 use Rattle.mm_reader.specs.declared.machine.Phase.TheVariants as phases
 use Rattle.mm_reader.specs.declared.machine.Stop.{Stop}
 use Rattle.mm_reader.specs.declared.machine.Stop.TheVariants as stops
-use Rattle.mm_reader.specs.KeptLines.{KeptLine}
-use Rattle.mm_reader.specs.Lines.{IsLine}
+use Rattle.mm_lines.specs.KeptLines.{KeptLine}
+use Rattle.mm_lines.specs.Lines.{IsLine}
 use Rattle.mm_reader.specs.Machine.{is_complete, StopsAt}
 use Rattle.mm_reader.specs.Stages.{IsBetween, IsAfter, StopsIn}
 use Rattle.mm_defs.proofs.SplitLemmas.{has_bytes-push}

@@ -22,7 +22,7 @@ use Rattle.mm_reader.specs.Machine.{HasBanner, HasEntries, HasLines, is_complete
 use Rattle.mm_reader.specs.Stages.{IsAll, Lacks, StopsAtEnd}
 use Rattle.mm_reader.proofs.CompleteLaws.{same_entries}
 use Rattle.mm_reader.proofs.StepLaws.{header_said, size_said}
-use Rattle.mm_reader.proofs.Words.{empty_of}
+use Rattle.mm_defs.proofs.WordLemmas.{empty_of}
 
 -- ---- all lines have come
 

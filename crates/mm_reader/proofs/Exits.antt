@@ -21,7 +21,7 @@ use Rattle.mm_reader.proofs.MissingLines.{lacks_lines}
 use Rattle.mm_reader.proofs.Progress.{Fed}
 use Rattle.mm_reader.proofs.StreamLaws.{refused_answer, fault_answer, fault_short, end_refused, end_read, read_on}
 use Rattle.mm_reader.proofs.WindowLaws.{length-ahead_of}
-use Rattle.mm_reader.proofs.Words.{empty_of}
+use Rattle.mm_defs.proofs.WordLemmas.{empty_of}
 
 -- ---- the counts of failures
 

@@ -15,7 +15,7 @@ use Rattle.mm_defs.specs.Header.{is_array, is_integer_field, value_words, size_w
 use Rattle.mm_defs.specs.Faults.{first_kind, extent_rules, count_rules, size_limits, size_rules, value_rules, triangle_rules, place_rules, coordinate_rules, array_rules}
 use Rattle.mm_defs.specs.File.{triple, triple_at}
 use Rattle.mm_reader.specs.declared.judge.Entry.{Entry}
-use Rattle.mm_reader.specs.Tokens.{capped}
+use Rattle.mm_lines.specs.Tokens.{capped}
 use Rattle.mm_reader.specs.Judged.{Judged, JudgedEntry, range_rules, triple_of}
 use Rattle.mm_defs.proofs.Rules.{first_none, first_some}
 

@@ -9,11 +9,8 @@ pub mod Exits
 pub mod FrontLaws
 pub mod Judges
 pub mod Leaving
-pub mod LineSteps
-pub mod Lookups
 pub mod Masks
 pub mod MissingLines
-pub mod Numbers
 pub mod PlainLaws
 pub mod PlainSteps
 pub mod Progress
@@ -23,4 +20,3 @@ pub mod StreamLaws
 pub mod TakenLines
 pub mod ValueWords
 pub mod WindowLaws
-pub mod Words

@@ -17,7 +17,7 @@ use Rattle.mm_defs.specs.Numbers.{value}
 use Rattle.mm_defs.proofs.AnswerLemmas.{and_left, and_right}
 use Rattle.mm_reader.specs.Plain.{between}
 use Rattle.mm_reader.specs.Places.{is_no_digit, IsMask, IsShortNumber}
-use Rattle.mm_reader.proofs.Numbers.{digit_at}
+use Rattle.mm_defs.proofs.WordLemmas.{digit_at}
 use Rattle.mm_reader.proofs.EightDigits.{number_moved, eight_small, zeros_in_front, each-zeros}
 
 -- how far a byte is above the digit 0

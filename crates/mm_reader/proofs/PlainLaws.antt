@@ -21,14 +21,13 @@ use Rattle.mm_defs.proofs.SplitLemmas.{split-append, but_last-append, last_part-
 use Rattle.mm_defs.proofs.Lines.{lines-push_lf, open_line-push_lf}
 use Rattle.mm_defs.specs.Numbers.{value, unsigned, is_number, number}
 use Rattle.mm_reader.specs.declared.judge.Entry.{Entry}
-use Rattle.mm_reader.specs.declared.number.Integer.{Integer}
+use Rattle.mm_lines.specs.declared.number.Integer.{Integer}
 use Rattle.mm_reader.specs.declared.plain.PlainLine.{PlainLine}
 use Rattle.mm_reader.specs.Judged.{JudgedEntry}
-use Rattle.mm_reader.specs.Tokens.{capped, ReadsInteger}
+use Rattle.mm_lines.specs.Tokens.{capped, ReadsInteger}
 use Rattle.mm_reader.specs.Plain.{between, is_inner, is_visible, stands_apart, IsRun, IsDigits, IsNextLine, HasValues, IsUsual, IsWholeLine, SaysEntry}
 use Rattle.mm_reader.proofs.Judges.{entry_judged}
-use Rattle.mm_reader.proofs.Words.{words-none, words-blank}
-use Rattle.mm_reader.proofs.Numbers.{all_ascii_digits-push, digit_at}
+use Rattle.mm_defs.proofs.WordLemmas.{words-none, words-blank, all_ascii_digits-push, digit_at}
 
 pub between-none : (bytes : List ℕ) (from : ℕ) → between bytes from from ≡ []
 between-none bytes from = let e : from - from ≡ 0 = omega arith in rw e refl

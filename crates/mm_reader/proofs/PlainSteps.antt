@@ -15,7 +15,7 @@ use Rattle.mm_reader.specs.Machine.{HasRoom, IsReady, StepsTo, TakesLine, is_com
 use Rattle.mm_reader.specs.Plain.{AwaitsPlain, IsWholeLine, between}
 use Rattle.mm_reader.specs.Stages.{begun_lines, GoesOn, Halts, IsAfter, StopsIn, StopsWithin}
 use Rattle.mm_reader.proofs.PlainLaws.{whole_line, whole_closed_line, between_join, between-none, between-push, split_at}
-use Rattle.mm_reader.proofs.Words.{empty_of}
+use Rattle.mm_defs.proofs.WordLemmas.{empty_of}
 
 pub stays : (m : Machine) (piece : List ℕ) (at : ℕ) → at ≤ length piece → IsReady m.phase m.triples → GoesOn m m piece at at
 stays m piece at h ready = record {

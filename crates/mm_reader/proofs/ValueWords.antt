@@ -11,13 +11,13 @@ use Rattle.mm_defs.specs.Header.{value_words, is_integer_field}
 use Rattle.mm_defs.specs.Numbers.{value, bare, is_negative, is_integer, integer}
 use Rattle.mm_defs.specs.Words.{is_blank, has_bytes, is_skipped, word, words}
 use Rattle.mm_defs.proofs.AnswerLemmas.{and_left, and_right}
-use Rattle.mm_reader.specs.declared.number.Integer.{Integer}
+use Rattle.mm_lines.specs.declared.number.Integer.{Integer}
 use Rattle.mm_reader.specs.declared.plain.PlainValue.{PlainValue}
 use Rattle.mm_reader.specs.Judged.{Judged}
-use Rattle.mm_reader.specs.Tokens.{capped, ReadsInteger}
+use Rattle.mm_lines.specs.Tokens.{capped, ReadsInteger}
 use Rattle.mm_reader.proofs.Judges.{value_judged}
 use Rattle.mm_reader.specs.Plain.{between, is_inner, is_visible, is_sign, stands_apart, IsRun, IsDigits, IsSign, IsIntegerHere, IsNextWord, IsNextInteger, IsNextLine, IsUsual, HasValues, SaysValue}
-use Rattle.mm_reader.proofs.Words.{words-none}
+use Rattle.mm_defs.proofs.WordLemmas.{words-none}
 use Rattle.mm_reader.proofs.PlainLaws.{both_of, between-none, between_join, weaker, all_append, some_bytes, digits_visible, visible_inner, blank_inner, words-next, words-only_blanks, blanks_apart, apart_blanks, whole_found}
 
 -- ---- signs

@@ -5,12 +5,9 @@ pub mod EntryLimits
 pub mod Fronts
 pub mod Inputs
 pub mod Judged
-pub mod KeptLines
-pub mod Lines
 pub mod Machine
 pub mod Places
 pub mod Plain
 pub mod Readings
 pub mod Stages
-pub mod Tokens
 pub mod Windows

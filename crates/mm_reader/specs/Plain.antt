@@ -11,10 +11,10 @@ use Rattle.mm_reader.specs.declared.machine.Machine.{Machine}
 use Rattle.mm_reader.specs.declared.machine.Phase.TheVariants as phases
 use Rattle.mm_reader.specs.declared.machine.Position.{Position}
 use Rattle.mm_reader.specs.declared.machine.Preamble.{Preamble}
-use Rattle.mm_reader.specs.declared.number.Integer.{Integer}
+use Rattle.mm_lines.specs.declared.number.Integer.{Integer}
 use Rattle.mm_reader.specs.declared.plain.PlainLine.{PlainLine}
 use Rattle.mm_reader.specs.declared.plain.PlainValue.{PlainValue}
-use Rattle.mm_reader.specs.Tokens.{capped, ReadsInteger}
+use Rattle.mm_lines.specs.Tokens.{capped, ReadsInteger}
 
 -- the bytes between two places
 abbrev pub between : List ℕ → ℕ → ℕ → List ℕ

@@ -9,7 +9,7 @@ use Rattle.mm_reader.specs.declared.machine.Machine.{Machine}
 use Rattle.mm_reader.specs.declared.machine.Phase.{Phase}
 use Rattle.mm_reader.specs.declared.machine.Stop.{Stop}
 use Rattle.mm_reader.specs.declared.machine.Stop.TheVariants as stops
-use Rattle.mm_reader.specs.Lines.{IsLine}
+use Rattle.mm_lines.specs.Lines.{IsLine}
 use Rattle.mm_reader.specs.Machine.{HasLines, IsReady, is_complete}
 
 -- how many lines have begun

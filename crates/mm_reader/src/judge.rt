@@ -9,14 +9,13 @@ ghost use Rattle.mm_defs.specs.Words.{Word, word, words};
 ghost use Rattle.mm_defs.specs.Header.{fields, formats, symmetries, named, may_combine, is_array, is_integer_field, is_general, value_words, header, size_words, size};
 ghost use Rattle.mm_defs.specs.Faults.{banner_rules, extent_rules, count_rules, size_limits, size_rules, place_rules, value_rules, triangle_rules, coordinate_rules, array_rules};
 ghost use Rattle.mm_defs.specs.File.{triple, triple_at};
-ghost use Rattle.mm_reader.specs.Tokens.{capped, ReadsInteger};
-ghost use Rattle.mm_reader.specs.Lines.{IsLine};
+ghost use Rattle.mm_lines.specs.Tokens.{capped, ReadsInteger};
+ghost use Rattle.mm_lines.specs.Lines.{IsLine};
 ghost use Rattle.mm_reader.specs.Judged.{Fits, Judged, JudgedEntry, JudgedPlace, Passes, IsHeader, IsWithin, range_rules};
 
 use crate::array::value_count;
-use crate::line::LineSoFar;
-use crate::number::Integer;
 use mm_defs::{Format, Header, Kind, Size, Symmetry};
+use mm_lines::{Integer, LineSoFar};
 use sp_ids::{Col, Field, MAX_COLS, MAX_ENTRY_LINES, MAX_ROWS, MAX_VALUE, Row};
 
 /// An entry line's place, counted from 0, and its value.

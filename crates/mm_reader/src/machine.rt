@@ -8,7 +8,7 @@ ghost use Rattle.mm_defs.specs.declared.header.Format.{Format};
 ghost use Rattle.mm_defs.specs.declared.header.Header.{Header};
 ghost use Rattle.mm_defs.specs.Header.{is_general, is_integer_field};
 ghost use Rattle.mm_defs.specs.File.{Reads, mirror, placed, with_mirrors, line_faults, later_lines};
-ghost use Rattle.mm_reader.specs.Lines.{IsLine};
+ghost use Rattle.mm_lines.specs.Lines.{IsLine};
 ghost use Rattle.mm_reader.specs.EntryLimits.{AreWithinLimits};
 ghost use Rattle.mm_reader.specs.Judged.{Fits, IsHeader, triple_of};
 ghost use Rattle.mm_reader.specs.Machine.{HasBanner, HasLines, HasRoom, IsReady, Steps, StopsAt, TakesLine, is_complete};
@@ -22,9 +22,9 @@ use crate::bad::BadLine;
 use crate::judge::{
     Entry, judge_banner, judge_entry, judge_integer, judge_place, judge_size, judge_value,
 };
-use crate::line::LineSoFar;
 use crate::plain::{PlainLine, PlainValue, plain_line, plain_value};
 use mm_defs::{End, Format, Header, Kind, Size, Symmetry};
+use mm_lines::LineSoFar;
 use sp_ids::{Col, Field, OutOfMemory, Row, Triples};
 use std::alloc::Global;
 

@@ -6,7 +6,7 @@ ghost use Rattle.mm_reader.specs.Plain.{IsRun, IsDigits};
 ghost use Rattle.mm_reader.specs.Places.{IsPlace};
 
 use crate::lanes::{later_non_digits, non_digits, short_number};
-use crate::line::is_blank;
+use mm_lines::is_blank;
 
 /// Numbers of the usual form have no more digits: they fit, whatever the digits are.
 const MOST_DIGITS: usize = 18;

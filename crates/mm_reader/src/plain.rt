@@ -4,9 +4,8 @@
 ghost use Rattle.std.specs.Prelude.{◌≡◌, ◌≤◌, length, IfSome};
 ghost use Rattle.mm_reader.specs.Plain.{is_visible, IsRun, IsSign, IsNextWord, IsIntegerHere, IsNextInteger, IsNextLine, HasValues, IsUsual, SaysEntry, SaysValue};
 
-use crate::line::is_blank;
-use crate::number::Integer;
 use crate::places::{Place, blanks, digits, place_at};
+use mm_lines::{Integer, is_blank};
 use sp_ids::Field;
 
 /// Stands for the values that are not integers.

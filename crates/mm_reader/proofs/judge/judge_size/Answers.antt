@@ -1,7 +1,7 @@
 use Rattle.std.proofs.Common.{◌≡◌, ◌==◌, length, true, refl, sym, ap, ◌∙◌}
 use Rattle.mm_defs.specs.Words.{words}
 use Rattle.mm_defs.specs.Header.{size, size_words}
-use Rattle.mm_reader.specs.Tokens.{capped}
+use Rattle.mm_lines.specs.Tokens.{capped}
 use Rattle.mm_reader.proofs.Judges.{coordinate_size_judged, array_size_judged}
 use Rattle.mm_reader.proofs.judge.judge_size.Goals as goal
 

@@ -1,6 +1,6 @@
 use Rattle.std.proofs.Common.{◌≡◌, ℕ, ap, sym, ◌∙◌, arith}
 use Rattle.mm_defs.specs.Arrays.{value_count}
-use Rattle.mm_reader.specs.Tokens.{capped}
+use Rattle.mm_lines.specs.Tokens.{capped}
 use Rattle.mm_reader.proofs.Judges.{extent_good}
 use Rattle.mm_reader.proofs.judge.judge_values.Goals as goal
 

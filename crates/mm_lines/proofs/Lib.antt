@@ -1,0 +1,4 @@
+pub mod LineSteps
+pub mod Lookups
+pub mod Numbers
+pub mod Words
