@@ -1,5 +1,5 @@
 -- Breadth-first trees of columns, one from each unmatched column.
-use Rattle.std.specs.Prelude.{◌≡◌, ◌⊎◌, ℕ, ◌<◌, Bool, List, true, false, [], ◌∷◌, ◌++◌, length, map, set, slice_index_or}
+use Rattle.std.specs.Prelude.{◌≡◌, ◌⊎◌, ℕ, ◌<◌, ◌^◌, Bool, List, true, false, [], ◌∷◌, ◌++◌, length, map, set, slice_index_or}
 use Rattle.bip_defs.specs.Lists.{Among, AreDistinct, IsMarked}
 use Rattle.bip_defs.specs.Marks.{IsExplored}
 use Rattle.bip_defs.specs.Matching.{Covers, cols_of, rows_of}
@@ -73,6 +73,7 @@ pub record CanGrow (a : Matrix) (m : Pairing) (t : Trees) : Type 0 where
 
 -- within a phase: a matching of the matrix, and the trees that have grown so far
 pub record AreGrowing (a : Matrix) (m : Pairing) (t : Trees) : Type 0 where
+  pub few_cols : cols a < 2 ^ 32
   pub matching : IsMatchingOf a m
   pub forest : IsForest a m.pairs t
 

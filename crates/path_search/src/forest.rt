@@ -1,6 +1,6 @@
 //! Phases of breadth-first searches from all unmatched columns at once.
 
-ghost use Rattle.std.specs.Prelude.{◌≡◌, ◌↔◌, ℕ, suc, ◌+◌, ◌<◌, ◌≤◌, ◌∷◌, ◌++◌, [], true, length, set, IsTrue, IfOk, IfSome, IfNone};
+ghost use Rattle.std.specs.Prelude.{◌≡◌, ◌↔◌, ℕ, suc, ◌+◌, ◌<◌, ◌^◌, ◌≤◌, ◌∷◌, ◌++◌, [], true, length, set, IsTrue, IfOk, IfSome, IfNone};
 ghost use Rattle.bip_defs.specs.Lists.{Among, IsMarked};
 ghost use Rattle.bip_defs.specs.Marks.{IsExplored};
 ghost use Rattle.bip_defs.specs.Matching.{Covers};
@@ -12,7 +12,7 @@ ghost use Rattle.path_search.specs.Flips.{CanFlip, Flips};
 ghost use Rattle.path_search.specs.Forests.{AreGrowing, CanGrow, EndsAt, GrowOn, HaveNoPath, IsForest, IsLeafOf, LeadOn, Progresses, Spreads, Traces, Visits, reached_at};
 
 use crate::batches::{Batch, ROOM, RowCandidate, gather, keep_unmarked, look_up, no_lists};
-use crate::columns::{sizes_fit, unmark_all};
+use crate::columns::unmark_all;
 use crate::reached::{Reached, RootedQueue};
 use bip_graph::{Matching, Opposite, trace_back};
 use sp_ids::{Col, OutOfMemory, Row};
@@ -149,6 +149,7 @@ impl SearchForest {
         requires matching_cols { (F.seen matching.now).cols ≡ cols (S.matrix side.now) }
         ensures forest { IsForest (S.matrix side.now) (F.seen matching.now).pairs self.new }
         ensures no_path { HaveNoPath (S.matrix side.now) (F.seen matching.now).pairs self.new 0 }
+        ensures few_cols { cols (S.matrix side.now) < 2 ^ 32 }
     {
         self.clear();
         for number in 0..side.cols() {
@@ -361,7 +362,6 @@ impl SearchForest {
             (F.seen matching.new) self.old self.new
             (batch.now.place + at) (batch.now.place + result) }
     {
-        sizes_fit::<F, S>(side);
         let (end, len) = gather(batch, at, candidates);
         if end == at {
             self.grow(side, matching, batch.place + at as u32);
@@ -391,7 +391,6 @@ impl SearchForest {
         ensures progresses { Progresses (S.matrix side.now) (F.seen matching.old)
             (F.seen matching.new) self.old self.new place result }
     {
-        sizes_fit::<F, S>(side);
         let count = look_up(side, matching, self.queue(), place as usize, lists);
         let batch = Batch {
             lists: &lists[..count],
@@ -428,7 +427,6 @@ impl SearchForest {
         ensures marks { length (F.seen matching.new).pairs ≡ length (F.seen matching.old).pairs
             → MarkHorizontalRows (S.matrix side.now) self.new.marks }
     {
-        sizes_fit::<F, S>(side);
         self.start(side, matching);
         let mut lists = no_lists(side);
         let mut candidates = [RowCandidate {

@@ -1,7 +1,7 @@
 //! Searches, and what one keeps for the next.
 
 ghost use Rattle.std.specs.Bool.{OnTrue, OnFalse};
-ghost use Rattle.std.specs.Prelude.{◌≡◌, ℕ, ◌<◌, ◌≤◌, ◌∷◌, ◌++◌, [], Bool, List, true, length, map, set, slice_index, IfOk, IfSome, IfNone};
+ghost use Rattle.std.specs.Prelude.{◌≡◌, ℕ, ◌<◌, ◌≤◌, ◌^◌, ◌∷◌, ◌++◌, [], Bool, List, true, length, map, set, slice_index, IfOk, IfSome, IfNone};
 ghost use Rattle.bip_defs.specs.Lists.{Among, IsMarked};
 ghost use Rattle.bip_defs.specs.Matching.{Covers, rows_of};
 ghost use Rattle.bip_defs.specs.Matrix.{IsEntry, cols};
@@ -11,7 +11,7 @@ ghost use Rattle.path_search.specs.Search.{Augments, CanSearchFrom, Exhausts, Fa
 ghost use Rattle.path_search.specs.Advances.{Advances, Descends};
 ghost use Rattle.path_search.specs.Trails.{HasPassed, IsSearchAt, read_place};
 
-use crate::columns::{next_unmarked, row_at, sizes_fit, unmark, unmark_all, unmatched_row};
+use crate::columns::{next_unmarked, row_at, unmark, unmark_all, unmatched_row};
 use crate::step::{ColumnPlace, Step};
 use bip_graph::{Matching, Opposite};
 use sp_ids::{Col, Id, OutOfMemory, Row};
@@ -32,7 +32,7 @@ pub struct Search {
 }
 
 impl Model for Search {
-    ghost use Rattle.std.specs.Prelude.{length, vec_capacity, ◌≤◌};
+    ghost use Rattle.std.specs.Prelude.{length, vec_capacity, ◌<◌, ◌≤◌, ◌^◌};
     ghost use Rattle.path_search.specs.Search.{SearchState};
 
     ghost Value = { SearchState };
@@ -48,7 +48,8 @@ impl Model for Search {
 
     ghost invariant = { λ s. (length s.marks.items ≤ vec_capacity s.path)
         × (length s.marks.items ≤ vec_capacity s.places)
-        × (length s.marks.items ≤ vec_capacity s.visited) };
+        × (length s.marks.items ≤ vec_capacity s.visited)
+        × (length s.marks.items < 2 ^ 32) };
 }
 
 impl Search {
@@ -79,7 +80,9 @@ impl Search {
 
     // Puts the search at a column, with nothing on its path.
     fn start(&mut self, root: Col)
-        ensures { self.new ≡ record self.old { root = root; path = []; places = []; visited = [] } }
+        ensures at { self.new
+            ≡ record self.old { root = root; path = []; places = []; visited = [] } }
+        ensures few_rows { length self.new.marks < 2 ^ 32 }
     {
         self.root = root;
         self.path.clear();
@@ -138,13 +141,13 @@ impl Search {
         requires marks { length self.old.marks ≡ (S.matrix side.now).rows }
         requires looks { self.old.cols ≡ cols (S.matrix side.now) }
         requires col { col < cols (S.matrix side.now) }
+        requires few_rows { (S.matrix side.now).rows < 2 ^ 32 }
         ensures same { self.new ≡ self.old }
         ensures found { IfSome result
             (λ r. IsEntry (S.matrix side.now) r col
             × (¬ Among r (rows_of (F.seen matching.now).pairs))) }
         ensures unmarked { IfSome result (λ r. ¬ IsMarked self.old.marks r) }
     {
-        sizes_fit::<F, S>(side);
         let rows = side.rows_of(col);
         let marks = self.marks.as_slice();
         let look = &mut self.look[col.0 as usize];
@@ -260,7 +263,6 @@ impl Search {
         ensures failed { OnFalse result (Exhausts (S.matrix side.now) (F.seen matching.now).pairs
             self.new.marks self.new.visited root) }
     {
-        sizes_fit::<F, S>(side);
         self.start(root);
         let mut at = ColumnPlace {
             col: root,

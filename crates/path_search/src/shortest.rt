@@ -7,7 +7,6 @@ ghost use Rattle.bip_defs.specs.Matrix.{cols};
 ghost use Rattle.path_search.specs.Forests.{AreGrowing, CanGrow, EndsAt, Extends, GrowOn, IsForest, reached_at};
 ghost use Rattle.path_search.specs.Layers.{AreLayers};
 
-use crate::columns::sizes_fit;
 use crate::forest::SearchForest;
 use crate::layers::Layers;
 use bip_graph::{Matching, Opposite};
@@ -38,7 +37,6 @@ impl SearchForest {
         ensures grown { (F.seen matching.new ≡ F.seen matching.old)
             ⊎ (length (F.seen matching.old).pairs < length (F.seen matching.new).pairs) }
     {
-        sizes_fit::<F, S>(side);
         if !layers.make(side, matching)? {
             return Ok(());
         }
@@ -96,7 +94,6 @@ impl SearchForest {
         ensures found { IfSome result
             (λ e. EndsAt (S.matrix side.now) (F.seen matching.now).pairs self.new e.0 e.1) }
     {
-        sizes_fit::<F, S>(side);
         let mut place = root;
         loop {
             let column = self.at(place);

@@ -47,7 +47,7 @@ returns-clause-progresses g c =
     rw (← end) c.loop-at.invariant.progresses
 
 pub overflow_cast-result : goal.overflow_cast-result
-overflow_cast-result g c = let short = forest_short _ _ _ c.requires.growing.forest in let few = c.sizes_fit.ensures.cols in let within = rw c.queue.ensures at c.look_up-count.ensures.within in omega arith
+overflow_cast-result g c = let short = forest_short _ _ _ c.requires.growing.forest in let few = c.requires.growing.few_cols in let within = rw c.queue.ensures at c.look_up-count.ensures.within in omega arith
 
 pub overflow_add-result : goal.overflow_add-result
-overflow_add-result g c = let short = forest_short _ _ _ c.requires.growing.forest in let few = c.sizes_fit.ensures.cols in let within = rw c.queue.ensures at c.look_up-count.ensures.within in omega arith
+overflow_add-result g c = let short = forest_short _ _ _ c.requires.growing.forest in let few = c.requires.growing.few_cols in let within = rw c.queue.ensures at c.look_up-count.ensures.within in omega arith

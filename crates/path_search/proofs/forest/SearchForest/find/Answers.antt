@@ -27,7 +27,7 @@ overflow_cast-place g c =
     let k = c.loop-row.invariant in
     let d = descended _ _ _ _ c.in-Some.row _ _ c.requires.growing.matching.matching k.forest k.within c.at-column.ensures c.in-Some.ensures.row.0 (rw c.marks.ensures at c.in-Some.ensures.row.1) (rw c.if-visit.false at c.visit.ensures) in
     let short = forest_short _ _ _ d.forest in
-    let few = c.sizes_fit.ensures.cols in
+    let few = c.requires.growing.few_cols in
     let count = c.reached.ensures in
     omega (arith, short, few, count)
 

@@ -4,13 +4,13 @@ use Rattle.path_search.proofs.SweepLemmas.{forest_short}
 use Rattle.path_search.proofs.forest.SearchForest.look_through.Goals as goal
 
 pub gather-end-requires-clause-places : goal.gather-end-requires-clause-places
-gather-end-requires-clause-places g c = let short = forest_short _ _ _ c.requires.growing.forest in let few = c.sizes_fit.ensures.cols in let within = c.requires.batch.within in omega arith
+gather-end-requires-clause-places g c = let short = forest_short _ _ _ c.requires.growing.forest in let few = c.requires.growing.few_cols in let within = c.requires.batch.within in omega arith
 
 pub overflow_cast-at : goal.overflow_cast-at
-overflow_cast-at g c = let short = forest_short _ _ _ c.requires.growing.forest in let few = c.sizes_fit.ensures.cols in let within = c.requires.batch.within in omega arith
+overflow_cast-at g c = let short = forest_short _ _ _ c.requires.growing.forest in let few = c.requires.growing.few_cols in let within = c.requires.batch.within in omega arith
 
 pub overflow_add-batch : goal.overflow_add-batch
-overflow_add-batch g c = let short = forest_short _ _ _ c.requires.growing.forest in let few = c.sizes_fit.ensures.cols in let within = c.requires.batch.within in omega arith
+overflow_add-batch g c = let short = forest_short _ _ _ c.requires.growing.forest in let few = c.requires.growing.few_cols in let within = c.requires.batch.within in omega arith
 
 pub keep_unmarked-kept-requires-clause-in_range : goal.keep_unmarked-kept-requires-clause-in_range
 keep_unmarked-kept-requires-clause-in_range g c = λ x h. rw (c.marks.ensures, c.requires.growing.forest.rows_are) (gathered_entries _ _ _ _ _ _ _ _ _ c.requires.batch.lists_are c.gather-end.ensures.end.1 c.requires.batch.within c.gather-end.ensures.gathered x h).entry.0

@@ -9,7 +9,7 @@ pub overflow_cast-root : goal.overflow_cast-root
 overflow_cast-root g c =
     let k = c.loop-root.invariant in
     let short = forest_short _ _ _ k.growing.forest in
-    let few = c.sizes_fit.ensures.cols in
+    let few = k.growing.few_cols in
     let roots = k.roots in
     omega (arith, short, few, roots, c.loop-root-test.true)
 

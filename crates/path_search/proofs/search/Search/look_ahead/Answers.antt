@@ -12,7 +12,7 @@ unmatched_row-requires-clause-in_range g c = λ r h. rw c.requires.rows (c.rows_
 pub unmatched_row-requires-clause-few : goal.unmatched_row-requires-clause-few
 unmatched_row-requires-clause-few g c =
     let short = column_short (g.S.Side.matrix c.args.side.now) (map g.F.Id.number c.rows_of-rows.result.now) c.args.col c.rows_of-rows.ensures.rows in
-    let few = c.sizes_fit.ensures.rows in
+    let few = c.requires.few_rows in
     omega (arith, length-map c.rows_of-rows.result.now g.F.Id.number)
 
 pub returns-clause-found : goal.returns-clause-found
