@@ -1,3 +1,4 @@
 pub mod Answers
 pub mod Search
 pub mod SearchSteps
+pub mod Trails

@@ -9,6 +9,7 @@ mod paths;
 mod roots;
 mod search;
 mod steps;
+mod trail;
 mod witness;
 
 pub use answer::Reach;
@@ -22,4 +23,5 @@ pub use paths::exchange;
 pub use roots::{listed_roots, other_roots, root};
 pub use search::{reached, reached_if_maximum, search_from};
 pub use steps::{Counter, Steps, Uncounted};
+pub use trail::Trail;
 pub use witness::{hall_set, reach, reach_in};

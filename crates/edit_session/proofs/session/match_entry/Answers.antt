@@ -12,11 +12,11 @@ use Rattle.edit_session.proofs.session.match_entry.Goals as goal
 pub returns-then-has-clause-kept : goal.returns-then-has-clause-kept
 returns-then-has-clause-kept g c = had_kept c.args.columns.now.matrix c.args.rows.now.matrix (c.args.row, c.args.col) c.args.matching.now c.args.cover.now c.cover_shows_maximum.ensures c.requires.matching c.requires.rows c.requires.cover (c.has.ensures.0 c.if-has.true)
 
-pub augment_to-requires-clause-transpose : goal.augment_to-requires-clause-transpose
-augment_to-requires-clause-transpose g c = subst (λ (b : Matrix). IsTransposeOf c.args.columns.now.matrix b) (sym c.requires.rows) (transpose_is c.args.columns.now.matrix)
-
-pub augment_to-requires-clause-count : goal.augment_to-requires-clause-count
-augment_to-requires-clause-count g c = ap entry_count c.requires.rows ∙ transpose_count c.args.columns.now.matrix c.is_pattern.ensures.columns
+pub augment_to-requires-clause-turned : goal.augment_to-requires-clause-turned
+augment_to-requires-clause-turned g c = record {
+  transpose = subst (λ (b : Matrix). IsTransposeOf c.args.columns.now.matrix b) (sym c.requires.rows) (transpose_is c.args.columns.now.matrix);
+  count = ap entry_count c.requires.rows ∙ transpose_count c.args.columns.now.matrix c.is_pattern.ensures.columns;
+}
 
 pub augment_to-requires-clause-unmatched : goal.augment_to-requires-clause-unmatched
 augment_to-requires-clause-unmatched g c = more_columns c.args.columns.now.matrix c.args.matching.now.pairs c.requires.matching.matching (λ e. c.if-size-cols.false (c.size-2.ensures.size ∙ e ∙ sym c.cols.ensures))
@@ -25,7 +25,7 @@ pub augment_to-requires-clause-cover : goal.augment_to-requires-clause-cover
 augment_to-requires-clause-cover g c = c.cover_stands.ensures.but_row c.args.columns.now.matrix (c.args.row, c.args.col) c.args.matching.now.pairs c.args.cover.now c.requires.cover
 
 pub returns-then-row_is_free-clause-kept : goal.returns-then-row_is_free-clause-kept
-returns-then-row_is_free-clause-kept g c = searched_kept c.args.columns.now.matrix c.args.rows.now.matrix (c.args.row, c.args.col) c.args.matching.now c.augment_to.new.matching c.args.cover.now c.augment_to.new.self c.cover_shows_maximum.ensures c.cover_stands.ensures.longer c.requires.rows c.requires.cover c.augment_to.ensures.matching c.augment_to.ensures.cover
+returns-then-row_is_free-clause-kept g c = searched_kept c.args.columns.now.matrix c.args.rows.now.matrix (c.args.row, c.args.col) c.args.matching.now c.augment_to.new.matching c.args.cover.now c.augment_to.new.self c.cover_shows_maximum.ensures c.cover_stands.ensures.longer c.requires.rows c.requires.cover c.augment_to.ensures.decided.matching c.augment_to.ensures.decided.cover
 
 pub returns-then-row_is_free-clause-searched_to : goal.returns-then-row_is_free-clause-searched_to
 returns-then-row_is_free-clause-searched_to g c partial other mated out = subst (λ (b : Matrix). IsSearchedTo c.args.row c.args.columns.now.matrix b c.args.matching.now.pairs c.args.cover.now c.augment_to.new.matching.pairs c.augment_to.new.self c.args.steps.now c.augment_to.new.steps) c.requires.rows c.augment_to.ensures.searched
@@ -34,7 +34,7 @@ pub returns-then-row_is_free-clause-paired : goal.returns-then-row_is_free-claus
 returns-then-row_is_free-clause-paired g c partial other free = let (s, pair) = some_found (λ r. Among {X = Place} (r, c.args.col) c.args.matching.now.pairs) c.row_of.result (sym c.is_some.ensures ∙ c.if-is_some.true) c.row_of.ensures.found in absurd (free (col_among s c.args.col c.args.matching.now.pairs pair))
 
 pub returns-else-row_is_free-clause-kept : goal.returns-else-row_is_free-clause-kept
-returns-else-row_is_free-clause-kept g c = over_kept c.args.columns.now.matrix c.args.rows.now.matrix (c.args.row, c.args.col) c.args.matching.now c.augment_over.new.matching c.args.cover.now c.augment_over.new.self c.cover_shows_maximum.ensures c.cover_stands.ensures.longer c.requires.rows c.requires.cover c.augment_over.ensures.matching c.augment_over.ensures.cover
+returns-else-row_is_free-clause-kept g c = over_kept c.args.columns.now.matrix c.args.rows.now.matrix (c.args.row, c.args.col) c.args.matching.now c.augment_over.new.matching c.args.cover.now c.augment_over.new.self c.cover_shows_maximum.ensures c.cover_stands.ensures.longer c.requires.rows c.requires.cover c.augment_over.ensures.decided.matching c.augment_over.ensures.decided.cover
 
 pub returns-else-row_is_free-clause-searched_to : goal.returns-else-row_is_free-clause-searched_to
 returns-else-row_is_free-clause-searched_to g c partial other mated out = let (d, pair) = some_found (λ x. Among {X = Place} (c.args.row, x) c.args.matching.now.pairs) c.col_of.result c.if-row_is_free.ensures c.col_of.ensures.found in absurd (out (row_among c.args.row d c.args.matching.now.pairs pair))
@@ -49,7 +49,7 @@ pub augment_from-requires-clause-cover : goal.augment_from-requires-clause-cover
 augment_from-requires-clause-cover g c = set_but c.args.columns.now.matrix (c.args.row, c.args.col) c.args.matching.now.pairs c.args.cover.now c.requires.cover
 
 pub returns-then-not-row_is_free-clause-kept : goal.returns-then-not-row_is_free-clause-kept
-returns-then-not-row_is_free-clause-kept g c = searched_kept c.args.columns.now.matrix c.args.rows.now.matrix (c.args.row, c.args.col) c.args.matching.now c.augment_from.new.matching c.args.cover.now c.augment_from.new.self c.cover_shows_maximum.ensures c.cover_stands.ensures.longer c.requires.rows c.requires.cover c.augment_from.ensures.matching c.augment_from.ensures.cover
+returns-then-not-row_is_free-clause-kept g c = searched_kept c.args.columns.now.matrix c.args.rows.now.matrix (c.args.row, c.args.col) c.args.matching.now c.augment_from.new.matching c.args.cover.now c.augment_from.new.self c.cover_shows_maximum.ensures c.cover_stands.ensures.longer c.requires.rows c.requires.cover c.augment_from.ensures.decided.matching c.augment_from.ensures.decided.cover
 
 pub returns-then-not-row_is_free-clause-paired : goal.returns-then-not-row_is_free-clause-paired
 returns-then-not-row_is_free-clause-paired g c partial other free out = let (d, pair) = some_found (λ x. Among {X = Place} (c.args.row, x) c.args.matching.now.pairs) c.col_of.result c.if-not-row_is_free.ensures c.col_of.ensures.found in absurd (out (row_among c.args.row d c.args.matching.now.pairs pair))

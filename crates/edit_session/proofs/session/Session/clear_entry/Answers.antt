@@ -38,12 +38,12 @@ augment_from-requires-clause-cover g c = subst (λ (a : Matrix). IsCoverBut c.ar
 pub invariant_of-self-then-not-is_marked : goal.invariant_of-self-then-not-is_marked
 invariant_of-self-then-not-is_marked g c =
     let turned : c.take-2.new.self.matrix ≡ without_place c.self.inside.rows.matrix (c.args.col, c.args.row) = rw c.row.view_is at (rw c.col.view_is at c.take-2.ensures.matrix) in
-    parted_kept c.self.inside.columns.matrix c.self.inside.rows.matrix c.take.new.self.matrix c.take-2.new.self.matrix (c.args.row, c.args.col) c.self.inside.matching c.unpair.new.self c.augment_from.new.matching c.add_root.new.self c.augment_from.new.self c.cover_shows_maximum.ensures c.cover_stands.ensures.as_long (subst (IsKept c.self.inside.columns.matrix c.self.inside.rows.matrix c.self.inside.matching) (sym c.add_root.ensures) c.self.invariant) c.take.ensures.matrix turned c.unpair.ensures.size c.augment_from.ensures.matching c.augment_from.ensures.cover
+    parted_kept c.self.inside.columns.matrix c.self.inside.rows.matrix c.take.new.self.matrix c.take-2.new.self.matrix (c.args.row, c.args.col) c.self.inside.matching c.unpair.new.self c.augment_from.new.matching c.add_root.new.self c.augment_from.new.self c.cover_shows_maximum.ensures c.cover_stands.ensures.as_long (subst (IsKept c.self.inside.columns.matrix c.self.inside.rows.matrix c.self.inside.matching) (sym c.add_root.ensures) c.self.invariant) c.take.ensures.matrix turned c.unpair.ensures.size c.augment_from.ensures.decided.matching c.augment_from.ensures.decided.cover
 
 pub returns-then-not-is_marked-clause-steps : goal.returns-then-not-is_marked-clause-steps
 returns-then-not-is_marked-clause-steps g c =
     let entry : IsEntry c.self.inside.columns.matrix c.args.row c.args.col = subst (λ (w : MatchedMatrix). IsEntry w.matrix c.args.row c.args.col) (sym c.self.view_is) c.requires.entry in
-    cleared_steps c.self.inside.columns.matrix c.take.new.self.matrix c.self.inside.matching c.self.inside.cover (c.args.row, c.args.col) c.args.self.now c.args.steps.now c.augment_from.new.steps c.self.view_is c.take.ensures.matrix c.is_pattern.ensures entry c.augment_from.ensures.steps
+    cleared_steps c.self.inside.columns.matrix c.take.new.self.matrix c.self.inside.matching c.self.inside.cover (c.args.row, c.args.col) c.args.self.now c.args.steps.now c.augment_from.new.steps c.self.view_is c.take.ensures.matrix c.is_pattern.ensures entry c.augment_from.ensures.decided.steps
 
 pub returns-then-not-is_marked-clause-searched_to : goal.returns-then-not-is_marked-clause-searched_to
 returns-then-not-is_marked-clause-searched_to g c = subst (λ (w : MatchedMatrix). Among {X = Place} (c.args.row, c.args.col) w.matching.pairs → IsMarked w.marks c.args.col
@@ -58,15 +58,14 @@ returns-then-not-is_marked-clause-searched_from g c = subst (λ (w : MatchedMatr
 pub augment_to-requires-clause-free : goal.augment_to-requires-clause-free
 augment_to-requires-clause-free g c = parted_row_free (c.args.row, c.args.col) c.self.inside.matching.pairs c.unpair.new.self.pairs c.unpair.ensures.pairs
 
-pub augment_to-requires-clause-transpose : goal.augment_to-requires-clause-transpose
-augment_to-requires-clause-transpose g c =
+pub augment_to-requires-clause-turned : goal.augment_to-requires-clause-turned
+augment_to-requires-clause-turned g c =
     let turned : c.take-2.new.self.matrix ≡ without_place c.self.inside.rows.matrix (c.args.col, c.args.row) = rw c.row.view_is at (rw c.col.view_is at c.take-2.ensures.matrix) in
-    subst (λ (b : Matrix). IsTransposeOf c.take.new.self.matrix b) (sym (cleared_rows c.self.inside.columns.matrix c.take.new.self.matrix c.self.inside.rows.matrix c.take-2.new.self.matrix (c.args.row, c.args.col) c.take.ensures.matrix c.self.invariant.rows turned)) (transpose_is c.take.new.self.matrix)
-
-pub augment_to-requires-clause-count : goal.augment_to-requires-clause-count
-augment_to-requires-clause-count g c =
-    let turned : c.take-2.new.self.matrix ≡ without_place c.self.inside.rows.matrix (c.args.col, c.args.row) = rw c.row.view_is at (rw c.col.view_is at c.take-2.ensures.matrix) in
-    cleared_count c.self.inside.columns.matrix c.take.new.self.matrix c.take-2.new.self.matrix (c.args.row, c.args.col) c.take.ensures.matrix c.is_pattern.ensures (cleared_rows c.self.inside.columns.matrix c.take.new.self.matrix c.self.inside.rows.matrix c.take-2.new.self.matrix (c.args.row, c.args.col) c.take.ensures.matrix c.self.invariant.rows turned)
+    let rows = cleared_rows c.self.inside.columns.matrix c.take.new.self.matrix c.self.inside.rows.matrix c.take-2.new.self.matrix (c.args.row, c.args.col) c.take.ensures.matrix c.self.invariant.rows turned in
+    record {
+      transpose = subst (λ (b : Matrix). IsTransposeOf c.take.new.self.matrix b) (sym rows) (transpose_is c.take.new.self.matrix);
+      count = cleared_count c.self.inside.columns.matrix c.take.new.self.matrix c.take-2.new.self.matrix (c.args.row, c.args.col) c.take.ensures.matrix c.is_pattern.ensures rows;
+    }
 
 pub augment_to-requires-clause-unmatched : goal.augment_to-requires-clause-unmatched
 augment_to-requires-clause-unmatched g c = subst (λ (a : Matrix). length c.unpair.new.self.pairs < cols a) (sym c.take.ensures.matrix) (parted_unmatched c.self.inside.columns.matrix (c.args.row, c.args.col) c.self.inside.matching.pairs c.unpair.new.self.pairs c.self.invariant.maximum.matching.matching c.unpair.ensures.size)
@@ -82,12 +81,12 @@ augment_to-requires-clause-cover g c = subst (λ (a : Matrix). IsCoverButRow c.a
 pub invariant_of-self-2 : goal.invariant_of-self-2
 invariant_of-self-2 g c =
     let turned : c.take-2.new.self.matrix ≡ without_place c.self.inside.rows.matrix (c.args.col, c.args.row) = rw c.row.view_is at (rw c.col.view_is at c.take-2.ensures.matrix) in
-    parted_kept c.self.inside.columns.matrix c.self.inside.rows.matrix c.take.new.self.matrix c.take-2.new.self.matrix (c.args.row, c.args.col) c.self.inside.matching c.unpair.new.self c.augment_to.new.matching c.add_root.new.self c.augment_to.new.self c.cover_shows_maximum.ensures c.cover_stands.ensures.as_long (subst (IsKept c.self.inside.columns.matrix c.self.inside.rows.matrix c.self.inside.matching) (sym c.add_root.ensures) c.self.invariant) c.take.ensures.matrix turned c.unpair.ensures.size c.augment_to.ensures.matching c.augment_to.ensures.cover
+    parted_kept c.self.inside.columns.matrix c.self.inside.rows.matrix c.take.new.self.matrix c.take-2.new.self.matrix (c.args.row, c.args.col) c.self.inside.matching c.unpair.new.self c.augment_to.new.matching c.add_root.new.self c.augment_to.new.self c.cover_shows_maximum.ensures c.cover_stands.ensures.as_long (subst (IsKept c.self.inside.columns.matrix c.self.inside.rows.matrix c.self.inside.matching) (sym c.add_root.ensures) c.self.invariant) c.take.ensures.matrix turned c.unpair.ensures.size c.augment_to.ensures.decided.matching c.augment_to.ensures.decided.cover
 
 pub returns-clause-steps : goal.returns-clause-steps
 returns-clause-steps g c =
     let entry : IsEntry c.self.inside.columns.matrix c.args.row c.args.col = subst (λ (w : MatchedMatrix). IsEntry w.matrix c.args.row c.args.col) (sym c.self.view_is) c.requires.entry in
-    cleared_steps c.self.inside.columns.matrix c.take.new.self.matrix c.self.inside.matching c.self.inside.cover (c.args.row, c.args.col) c.args.self.now c.args.steps.now c.augment_to.new.steps c.self.view_is c.take.ensures.matrix c.is_pattern.ensures entry c.augment_to.ensures.steps
+    cleared_steps c.self.inside.columns.matrix c.take.new.self.matrix c.self.inside.matching c.self.inside.cover (c.args.row, c.args.col) c.args.self.now c.args.steps.now c.augment_to.new.steps c.self.view_is c.take.ensures.matrix c.is_pattern.ensures entry c.augment_to.ensures.decided.steps
 
 pub returns-clause-searched_to : goal.returns-clause-searched_to
 returns-clause-searched_to g c =
