@@ -18,12 +18,11 @@ import rattle_source as source  # noqa: E402
 
 # The most findings of a rule: lower the number where findings go.
 AT_MOST = {
-    "contract above ten lines": 63,
-    "more than five arguments": 23,
-    "law called in a body": 127,
-    "clause wider than 100 columns": 1,
-    "statement stands twice": 19,
-    "name with two meanings": 8,
+    "contract above ten lines": 34,
+    "more than five arguments": 15,
+    "law called in a body": 212,
+    "statement stands twice": 13,
+    "name with two meanings": 6,
 }
 
 FROM_OUTSIDE = {"rt", "alloc", "self", "&self", "&mut self"}
@@ -113,7 +112,7 @@ def laws_called(functions):
     laws = {function.name for function in functions if function.is_law}
     for function in functions:
         if function.body and not function.is_law:
-            for name in re.findall(r"^\s*(?:\w+::)*(\w+)\(.*$", function.body, re.M):
+            for name in re.findall(r"^\s*(?:[\w.]+\.|(?:\w+::)*)(\w+)(?:::<[^;]*>)?\(.*\);$", function.body, re.M):
                 if name in laws:
                     yield f"{function.path} {name}", function.place
 
