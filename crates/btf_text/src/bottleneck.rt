@@ -1,10 +1,9 @@
 //! The text of a perfect matching whose least weight is greatest, or of why there is none.
 
-ghost use Rattle.std.specs.Prelude.{◌≡◌, ◌<◌, ◌∷◌, [], codes, filter, true};
-ghost use Rattle.bip_defs.specs.Matrix.{AreEntries, neighbours, touches};
-ghost use Rattle.bip_graph.specs.Texts.{counted, line, spaced};
+ghost use Rattle.std.specs.Prelude.{◌≡◌};
+ghost use Rattle.bip_defs.specs.Matrix.{AreEntries};
 ghost use Rattle.btf_text.specs.Bottlenecks.{BestPairsAreEntries, best_lines, bottleneck_lines, bottleneck_text, entries_above};
-ghost use Rattle.btf_text.specs.Texts.{Puts, PutsBytes};
+ghost use Rattle.btf_text.specs.Texts.{Puts};
 ghost use Rattle.sp_ports.specs.Device.{Writes, seen};
 
 use crate::TextBuf;

@@ -1,12 +1,9 @@
 //! The text of the heaviest diagonal, or of why there is none.
 
-ghost use Rattle.std.specs.Prelude.{◌≡◌, ◌↔◌, ◌<◌, ◌≤◌, ◌∷◌, [], IsTrue, codes, filter, length, map, true};
-ghost use Rattle.std.specs.Fmt.{signed_decimal};
-ghost use Rattle.bip_defs.specs.Lists.{Among, IsRising};
-ghost use Rattle.bip_defs.specs.Matrix.{AreEntries, IsEntry, neighbours, touches};
-ghost use Rattle.bip_graph.specs.Texts.{counted, line, spaced};
-ghost use Rattle.btf_text.specs.Diagonals.{PairsAreEntries, diagonal_lines, diagonal_text, entry_line, rectangular_line, signed_line, singular_lines, weighed_lines};
-ghost use Rattle.btf_text.specs.Texts.{Puts, PutsBytes};
+ghost use Rattle.std.specs.Prelude.{◌≡◌, ◌∷◌, [], map};
+ghost use Rattle.bip_defs.specs.Matrix.{AreEntries, IsEntry};
+ghost use Rattle.btf_text.specs.Diagonals.{PairsAreEntries, diagonal_lines, diagonal_text, entry_line, rectangular_line, singular_lines, weighed_lines};
+ghost use Rattle.btf_text.specs.Texts.{Puts};
 ghost use Rattle.sp_ports.specs.Device.{Writes, seen};
 
 use crate::TextBuf;
@@ -14,7 +11,7 @@ use crate::hall::{Hall, put_neighbours};
 use crate::text::Text;
 use bip_graph::Heaviest;
 use itoa::Buffer;
-use sp_ids::{Col, Id, Row};
+use sp_ids::{Col, Row};
 use sp_pattern::{Pattern, Weights};
 use sp_ports::{Failed, Sink};
 

@@ -1,6 +1,6 @@
 //! A text on its way to its sink.
 
-ghost use Rattle.std.specs.Prelude.{◌≡◌, ◌≤◌, ◌∷◌, [], decimal, length, map};
+ghost use Rattle.std.specs.Prelude.{◌≤◌, ◌∷◌, [], decimal, length, map};
 ghost use Rattle.bip_graph.specs.Texts.{counted, line, spaced};
 ghost use Rattle.btf_text.specs.Diagonals.{signed_line};
 
