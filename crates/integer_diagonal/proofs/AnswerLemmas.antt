@@ -56,8 +56,8 @@ module _ (x : Priced) (u v : List ℤ) where
       both : (r c : ℕ) → IsEntry x.weighing.matrix r c → (price u r ≡ pos (slice_index x.prices r) -ℤ pos x.top) × (price v c ≡ pos (x.top + x.top) -ℤ pos (dual x c))
       both r c e = (row_price eu r (let in_rows = e.0 in let long = f.prices_are in omega (arith, in_rows, long)), col_price ev c (let in_cols = entry_col x.weighing.matrix r c e in let long = f.duals_are in omega (arith, in_cols, long)))
 
-pub mated_same : {W : Type 0} (w : Weighing) (m : Matrix) (a : Assignment W) (p : PathSearch W) (n : ℕ) → AreMated w m a p n → Among n (cols_of a.matching.pairs) → AreMated w m a p (n + 1)
-mated_same w m a p n k on = record { assignment = k.assignment; ready = k.ready; done = below_more (λ c. Among c (cols_of a.matching.pairs)) n k.done on }
+pub mated_same : {W : Type 0} (w : Weighing) (a : Assignment W) (p : PathSearch W) (n : ℕ) → AreMated w a p n → Among n (cols_of a.matching.pairs) → AreMated w a p (n + 1)
+mated_same w a p n k on = record { assignment = k.assignment; ready = k.ready; done = below_more (λ c. Among c (cols_of a.matching.pairs)) n k.done on }
 
-pub mated_next : {W : Type 0} (w : Weighing) (m : Matrix) (a b : Assignment W) (p q : PathSearch W) (n : ℕ) → AreMated w m a p n → IsAssignment w b → Covers a.matching.pairs b.matching.pairs → Among n (cols_of b.matching.pairs) × IsReady m q → AreMated w m b q (n + 1)
-mated_next w m a b p q n k assignment covered found = record { assignment = assignment; ready = found.1; done = below_more (λ c. Among c (cols_of b.matching.pairs)) n (λ c lt. covered.cols c (k.done c lt)) found.0 }
+pub mated_next : {W : Type 0} (w : Weighing) (a b : Assignment W) (p q : PathSearch W) (n : ℕ) → AreMated w a p n → IsAssignment w b → Covers a.matching.pairs b.matching.pairs → Among n (cols_of b.matching.pairs) × IsReady w.matrix q → AreMated w b q (n + 1)
+mated_next w a b p q n k assignment covered found = record { assignment = assignment; ready = found.1; done = below_more (λ c. Among c (cols_of b.matching.pairs)) n (λ c lt. covered.cols c (k.done c lt)) found.0 }

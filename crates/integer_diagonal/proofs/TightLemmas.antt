@@ -3,7 +3,7 @@ use Rattle.std.proofs.Common.{◌≡◌, ◌∙◌, ℕ, slice_index, ◌+◌, �
 use Rattle.std.proofs.lemmas.List.{get_or_read}
 use Rattle.std.proofs.lemmas.List.Elements.{filter_more}
 use Rattle.bip_defs.specs.Matching.{Covers}
-use Rattle.bip_defs.specs.Matrix.{cols, column}
+use Rattle.bip_defs.specs.Matrix.{column}
 use Rattle.bip_graph.specs.Matching.{IsMatchingOf, Pairing}
 use Rattle.integer_diagonal.proofs.Cheap.{cheap_cols}
 use Rattle.integer_diagonal.specs.Duals.{IsAssigned, Priced, cheap}

@@ -1,5 +1,4 @@
 pub mod Amounts
-pub mod Blocks
 pub mod Candidates
 pub mod Distances
 pub mod Duals
@@ -8,6 +7,8 @@ pub mod Heaviest
 pub mod Labels
 pub mod Mated
 pub mod Nearness
+pub mod PriceBlocks
 pub mod Prices
 pub mod RowWeights
 pub mod SearchTree
+pub mod Searches

@@ -16,8 +16,8 @@ pub record IsReady {W : Type 0} (m : Matrix) (p : PathSearch W) : Type 0 where
   pub room : cols m ≤ vec_capacity p.path
 
 -- the columns below n have mates, and the search is ready for the next one
-pub record AreMated {W : Type 0} (w : Weighing) (m : Matrix) (a : Assignment W) (p : PathSearch W)
+pub record AreMated {W : Type 0} (w : Weighing) (a : Assignment W) (p : PathSearch W)
     (n : ℕ) : Type 0 where
   pub assignment : IsAssignment w a
-  pub ready : IsReady m p
+  pub ready : IsReady w.matrix p
   pub done : (c : ℕ) → c < n → Among c (cols_of a.matching.pairs)

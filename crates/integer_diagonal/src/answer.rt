@@ -5,7 +5,7 @@ ghost use Rattle.bip_defs.specs.Lists.{Among};
 ghost use Rattle.bip_defs.specs.Matching.{cols_of};
 ghost use Rattle.bip_defs.specs.Matrix.{AreEntries, cols};
 ghost use Rattle.bip_graph.specs.Matching.{IsMatchingOf, IsMaximumOf};
-ghost use Rattle.integer_diagonal.specs.Blocks.{AreBlocksOf};
+ghost use Rattle.integer_diagonal.specs.PriceBlocks.{AreBlocksOf};
 ghost use Rattle.integer_diagonal.specs.Heaviest.{IsHeaviest};
 ghost use Rattle.integer_diagonal.specs.Amounts.{HasRoom};
 ghost use Rattle.integer_diagonal.specs.Duals.{AreAtMost, IsAssignment};
@@ -15,7 +15,7 @@ ghost use Rattle.sp_pattern.specs.Weights.{Weighing};
 
 use crate::amount::Amount;
 use crate::assignment::Assignment;
-use crate::blocks::{Blocks, highest_price, set_apart};
+use crate::blocks::{PriceBlocks, highest_price, set_apart};
 use crate::fairness::is_fair;
 use crate::phases::match_by_phases;
 use crate::searches::{match_all, match_early};
@@ -26,7 +26,7 @@ use bip_graph::{Heaviest, Matching};
 use breadth_first_match::complete;
 use hall_witness::hall_set;
 use sp_ids::{Col, OutOfMemory, Row};
-use sp_pattern::{Pattern, Weights};
+use sp_pattern::{Neighbours, Pattern, Weights};
 use std::alloc::Global;
 
 /// The heaviest diagonal: as many entries as the matrix has rows and columns, no two in one row or
@@ -70,7 +70,7 @@ pub fn heaviest(
     if maximum.size() != pattern.cols() {
         return singular(alloc, pattern, &maximum);
     }
-    heaviest_of_full(alloc, pattern, weights, maximum)
+    heaviest_of_full(alloc, weights, maximum)
 }
 
 // The answer where the matrix has no diagonal.
@@ -90,74 +90,68 @@ fn singular(alloc: Global, pattern: &Pattern, maximum: &Matching) -> Result<Heav
 // The answer where there is a full matching, by numbers of the width that has room for the sums.
 fn heaviest_of_full(
     alloc: Global,
-    pattern: &Pattern,
     weights: &Weights,
     full: Matching,
 ) -> Result<Heaviest, OutOfMemory>
-    requires of { weights.now.matrix ≡ pattern.now }
-    requires square { pattern.now.rows ≡ cols pattern.now }
-    requires maximum { IsMaximumOf pattern.now full }
-    requires full { IsFull pattern.now full.pairs }
+    requires square { weights.now.matrix.rows ≡ cols weights.now.matrix }
+    requires maximum { IsMaximumOf weights.now.matrix full }
+    requires full { IsFull weights.now.matrix full.pairs }
     ensures { IfOk result (IsHeaviest weights.now) }
 {
-    let top = greatest_of_all(pattern, weights);
-    let blocks = Blocks::find(alloc, pattern, weights, &full, top)?;
+    let top = greatest_of_all(weights);
+    let blocks = PriceBlocks::find(alloc, weights, &full, top)?;
     let most = highest_price(&blocks, top);
-    if u64::has_room(pattern.cols(), most) {
-        heaviest_by_width::<u64>(alloc, pattern, weights, top, full, &blocks)
+    if u64::has_room(weights.cols(), most) {
+        heaviest_by_width::<u64>(alloc, weights, top, full, &blocks)
     } else {
-        heaviest_by_width::<u128>(alloc, pattern, weights, top, full, &blocks)
+        heaviest_by_width::<u128>(alloc, weights, top, full, &blocks)
     }
 }
 
 // The same where no entry weighs more than `top`, by numbers of one width.
 fn heaviest_by_width<W: Width>(
     alloc: Global,
-    pattern: &Pattern,
     weights: &Weights,
     top: u64,
     full: Matching,
-    blocks: &Option<Blocks>,
+    blocks: &Option<PriceBlocks>,
 ) -> Result<Heaviest, OutOfMemory>
-    requires of { weights.now.matrix ≡ pattern.now }
-    requires square { pattern.now.rows ≡ cols pattern.now }
-    requires few { cols pattern.now < 2 ^ 32 }
+    requires square { weights.now.matrix.rows ≡ cols weights.now.matrix }
+    requires few { cols weights.now.matrix < 2 ^ 32 }
     requires small { AreAtMost weights.now top }
-    requires room { HasRoom (cols pattern.now) top W.limit }
-    requires matching { IsMatchingOf pattern.now full }
-    requires full { IsFull pattern.now full.pairs }
-    requires blocks { IfSome blocks.now (AreBlocksOf pattern.now) }
+    requires room { HasRoom (cols weights.now.matrix) top W.limit }
+    requires matching { IsMatchingOf weights.now.matrix full }
+    requires full { IsFull weights.now.matrix full.pairs }
+    requires blocks { IfSome blocks.now (AreBlocksOf weights.now.matrix) }
     ensures { IfOk result (IsHeaviest weights.now) }
 {
-    let assignment = start::<W>(alloc, pattern, weights, top)?;
-    let assignment = set_apart(alloc, pattern, weights, assignment, blocks)?;
-    let assignment = first_pairs(alloc, pattern, weights, assignment, full)?;
-    if assignment.matching.size() == pattern.cols() {
-        return diagonal(alloc, pattern, weights, assignment);
+    let assignment = start::<W>(alloc, weights, top)?;
+    let assignment = set_apart(alloc, weights, assignment, blocks)?;
+    let assignment = first_pairs(alloc, weights, assignment, full)?;
+    if assignment.matching.size() == weights.cols() {
+        return diagonal(alloc, weights, assignment);
     }
     let mut assignment = assignment;
-    match_early(alloc, pattern, weights, &mut assignment)?;
-    let mut assignment = match_by_phases(alloc, pattern, weights, assignment)?;
-    match_all(alloc, pattern, weights, &mut assignment)?;
-    diagonal(alloc, pattern, weights, assignment)
+    match_early(alloc, weights, &mut assignment)?;
+    let mut assignment = match_by_phases(alloc, weights, assignment)?;
+    match_all(alloc, weights, &mut assignment)?;
+    diagonal(alloc, weights, assignment)
 }
 
 // Pairs to begin with: those of a full matching, where they cost as much as the prices ask, or else
 // as many as can be had of the entries that do.
 fn first_pairs<W: Width>(
     alloc: Global,
-    pattern: &Pattern,
     weights: &Weights,
     assignment: Assignment<W>,
     full: Matching,
 ) -> Result<Assignment<W>, OutOfMemory>
-    requires of { weights.now.matrix ≡ pattern.now }
     requires assignment { IsAssignment weights.now assignment }
     requires empty { assignment.matching.pairs ≡ [] }
-    requires room { HasRoom (cols pattern.now) assignment.top W.limit }
-    requires matching { IsMatchingOf pattern.now full }
+    requires room { HasRoom (cols weights.now.matrix) assignment.top W.limit }
+    requires matching { IsMatchingOf weights.now.matrix full }
     ensures assignment { IfOk result (IsAssignment weights.now) }
-    ensures room { IfOk result (λ a. HasRoom (cols pattern.now) a.top W.limit) }
+    ensures room { IfOk result (λ a. HasRoom (cols weights.now.matrix) a.top W.limit) }
 {
     let candidate = Assignment {
         top: assignment.top,
@@ -165,7 +159,7 @@ fn first_pairs<W: Width>(
         duals: assignment.duals,
         matching: full,
     };
-    if is_fair(pattern, weights, &candidate) {
+    if is_fair(weights, &candidate) {
         return Ok(candidate);
     }
     let assignment = Assignment {
@@ -174,7 +168,7 @@ fn first_pairs<W: Width>(
         duals: candidate.duals,
         matching: assignment.matching,
     };
-    match_tight(alloc, pattern, weights, assignment)
+    match_tight(alloc, weights, assignment)
 }
 
 // The answer where all columns have mates.
@@ -182,16 +176,14 @@ fn first_pairs<W: Width>(
 // The prices and the dual variables are given back once they have been read.
 fn diagonal<W: Width>(
     alloc: Global,
-    pattern: &Pattern,
     weights: &Weights,
     assignment: Assignment<W>,
 ) -> Result<Heaviest, OutOfMemory>
-    requires of { weights.now.matrix ≡ pattern.now }
-    requires square { pattern.now.rows ≡ cols pattern.now }
-    requires few { cols pattern.now < 2 ^ 32 }
+    requires square { weights.now.matrix.rows ≡ cols weights.now.matrix }
+    requires few { cols weights.now.matrix < 2 ^ 32 }
     requires assignment { IsAssignment weights.now assignment }
-    requires room { HasRoom (cols pattern.now) assignment.top W.limit }
-    requires all_cols { (c : ℕ) → c < cols pattern.now
+    requires room { HasRoom (cols weights.now.matrix) assignment.top W.limit }
+    requires all_cols { (c : ℕ) → c < cols weights.now.matrix
         → Among c (cols_of assignment.matching.pairs) }
     ensures { IfOk result (IsHeaviest weights.now) }
 {

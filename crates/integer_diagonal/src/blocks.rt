@@ -4,7 +4,7 @@ ghost use Rattle.std.specs.Prelude.{◌≡◌, ℕ, ◌<◌, ◌≤◌, length, 
 ghost use Rattle.bip_defs.specs.Matrix.{cols};
 ghost use Rattle.bip_graph.specs.Matching.{IsMaximumOf};
 ghost use Rattle.integer_diagonal.specs.Amounts.{HasRoom};
-ghost use Rattle.integer_diagonal.specs.Blocks.{AreBlocksOf};
+ghost use Rattle.integer_diagonal.specs.PriceBlocks.{AreBlocksOf};
 ghost use Rattle.integer_diagonal.specs.Duals.{IsAssignment};
 
 use crate::amount::Amount;
@@ -14,7 +14,7 @@ use crate::width::Width;
 use bip_graph::Matching;
 use dm_coarse::coarse_in_turn;
 use sp_ids::{Col, Id, OutOfMemory, Row};
-use sp_pattern::{Pattern, Weights};
+use sp_pattern::{Neighbours, Pattern, Weights};
 use square_components::strong_components;
 use std::alloc::Global;
 
@@ -22,7 +22,7 @@ use std::alloc::Global;
 /// columns and of their mates: each row's and each column's, and how many there are. No full
 /// matching has an entry whose row and column are in two of them.
 #[derive(Drop)]
-pub struct Blocks {
+pub struct PriceBlocks {
     pub of_row: Vec<u32>,
     pub of_col: Vec<u32>,
     pub count: u32,
@@ -32,7 +32,7 @@ pub struct Blocks {
 // below 2^62 in magnitude; how far they go from there is left open.
 const HIGHEST_PRICE: u64 = 1 << 62;
 
-impl Blocks {
+impl PriceBlocks {
     /// The blocks, by the pairs of a full matching, where prices are to set them apart. They are
     /// looked for where a row or a column has one entry alone, which is a block then (without one,
     /// few matrices have several), and where not all entries weigh `top`, the greatest weight; and
@@ -43,22 +43,21 @@ impl Blocks {
     /// two, and one look at each row, column and weight.
     pub fn find(
         alloc: Global,
-        pattern: &Pattern,
         weights: &Weights,
         matching: &Matching,
         top: u64,
-    ) -> Result<Option<Blocks>, OutOfMemory>
-        requires of { weights.now.matrix ≡ pattern.now }
-        requires matching { IsMaximumOf pattern.now matching.now }
-        ensures { IfOk result (λ o. IfSome o (AreBlocksOf pattern.now)) }
+    ) -> Result<Option<PriceBlocks>, OutOfMemory>
+        requires matching { IsMaximumOf weights.now.matrix matching.now }
+        ensures { IfOk result (λ o. IfSome o (AreBlocksOf weights.now.matrix)) }
     {
-        if !has_single(pattern) || are_equal(pattern, weights, top) {
+        let pattern = weights.pattern();
+        if !has_single(pattern) || are_equal(weights, top) {
             return Ok(None);
         }
         let parts = coarse_in_turn(alloc, pattern, matching)?;
         let components = strong_components(alloc, pattern, matching, &parts)?;
         let of_row = numbers_of_rows(alloc, matching, components.numbers.as_slice())?;
-        let blocks = Blocks {
+        let blocks = PriceBlocks {
             of_row,
             of_col: components.numbers,
             count: components.count,
@@ -88,13 +87,12 @@ impl Blocks {
     }
 
     // The greatest weight of an entry of a column that is in its block, or 0.
-    fn greatest(&self, pattern: &Pattern, weights: &Weights, col: Col) -> u64
-        requires of { weights.now.matrix ≡ pattern.now }
-        requires blocks { AreBlocksOf pattern.now self.now }
-        requires col { col < cols pattern.now }
+    fn greatest(&self, weights: &Weights, col: Col) -> u64
+        requires blocks { AreBlocksOf weights.now.matrix self.now }
+        requires col { col < cols weights.now.matrix }
     {
         let block = self.of_col[col.0 as usize];
-        let rows = pattern.rows_of(col);
+        let rows = weights.rows_of(col);
         let weights = weights.weights_of(col);
         let mut most = 0;
         for k in 0..rows.len() {
@@ -106,20 +104,13 @@ impl Blocks {
     }
 
     // Each column's dual variable, by the entries of its block alone.
-    fn duals(
-        &self,
-        alloc: Global,
-        pattern: &Pattern,
-        weights: &Weights,
-        top: u64,
-    ) -> Result<Vec<u64>, OutOfMemory>
-        requires of { weights.now.matrix ≡ pattern.now }
-        requires blocks { AreBlocksOf pattern.now self.now }
-        ensures { IfOk result (λ duals. length duals.items ≡ cols pattern.now) }
+    fn duals(&self, alloc: Global, weights: &Weights, top: u64) -> Result<Vec<u64>, OutOfMemory>
+        requires blocks { AreBlocksOf weights.now.matrix self.now }
+        ensures { IfOk result (λ duals. length duals.items ≡ cols weights.now.matrix) }
     {
-        let mut duals = Vec::with_capacity(alloc, pattern.cols() as usize)?;
-        for col in 0..pattern.cols() {
-            let least = top.saturating_sub(self.greatest(pattern, weights, Col(col)));
+        let mut duals = Vec::with_capacity(alloc, weights.cols() as usize)?;
+        for col in 0..weights.cols() {
+            let least = top.saturating_sub(self.greatest(weights, Col(col)));
             let dual = top.saturating_add(least);
             duals.push(dual.saturating_add(self.rise(Col(col), top)))?;
         }
@@ -131,19 +122,17 @@ impl Blocks {
     fn prices(
         &self,
         alloc: Global,
-        pattern: &Pattern,
         weights: &Weights,
         top: u64,
         duals: &[u64],
     ) -> Result<Vec<u64>, OutOfMemory>
-        requires of { weights.now.matrix ≡ pattern.now }
-        requires blocks { AreBlocksOf pattern.now self.now }
-        requires duals { length duals.now ≡ cols pattern.now }
-        ensures { IfOk result (λ prices. length prices.items ≡ pattern.now.rows) }
+        requires blocks { AreBlocksOf weights.now.matrix self.now }
+        requires duals { length duals.now ≡ cols weights.now.matrix }
+        ensures { IfOk result (λ prices. length prices.items ≡ weights.now.matrix.rows) }
     {
-        let mut prices = vec![in alloc; 0u64; pattern.rows() as usize]?;
-        for col in 0..pattern.cols() {
-            self.raise_rows(pattern, weights, top, duals, &mut prices, Col(col));
+        let mut prices = vec![in alloc; 0u64; weights.rows() as usize]?;
+        for col in 0..weights.cols() {
+            self.raise_rows(weights, top, duals, &mut prices, Col(col));
         }
         Ok(prices)
     }
@@ -152,23 +141,21 @@ impl Blocks {
     // asks of them.
     fn raise_rows(
         &self,
-        pattern: &Pattern,
         weights: &Weights,
         top: u64,
         duals: &[u64],
         prices: &mut Vec<u64>,
         col: Col,
     )
-        requires of { weights.now.matrix ≡ pattern.now }
-        requires blocks { AreBlocksOf pattern.now self.now }
-        requires duals { length duals.now ≡ cols pattern.now }
-        requires prices { length prices.old.items ≡ pattern.now.rows }
-        requires col { col < cols pattern.now }
-        ensures { length prices.new.items ≡ pattern.now.rows }
+        requires blocks { AreBlocksOf weights.now.matrix self.now }
+        requires duals { length duals.now ≡ cols weights.now.matrix }
+        requires prices { length prices.old.items ≡ weights.now.matrix.rows }
+        requires col { col < cols weights.now.matrix }
+        ensures { length prices.new.items ≡ weights.now.matrix.rows }
     {
         let block = self.of_col[col.0 as usize];
         let dual = duals[col.0 as usize];
-        let rows = pattern.rows_of(col);
+        let rows = weights.rows_of(col);
         let weights = weights.weights_of(col);
         for k in 0..rows.len() {
             let row = rows[k].number() as usize;
@@ -182,7 +169,7 @@ impl Blocks {
 
 /// What no price is more than to begin with, where the blocks stand apart and no entry weighs more
 /// than `top`.
-pub fn highest_price(blocks: &Option<Blocks>, top: u64) -> u64
+pub fn highest_price(blocks: &Option<PriceBlocks>, top: u64) -> u64
     ensures { top ≤ result }
 {
     match blocks {
@@ -201,32 +188,30 @@ pub fn highest_price(blocks: &Option<Blocks>, top: u64) -> u64
 /// `OutOfMemory`. Work: three looks at each entry.
 pub fn set_apart<W: Width>(
     alloc: Global,
-    pattern: &Pattern,
     weights: &Weights,
     assignment: Assignment<W>,
-    blocks: &Option<Blocks>,
+    blocks: &Option<PriceBlocks>,
 ) -> Result<Assignment<W>, OutOfMemory>
-    requires of { weights.now.matrix ≡ pattern.now }
     requires assignment { IsAssignment weights.now assignment }
-    requires room { HasRoom (cols pattern.now) assignment.top W.limit }
-    requires blocks { IfSome blocks.now (AreBlocksOf pattern.now) }
+    requires room { HasRoom (cols weights.now.matrix) assignment.top W.limit }
+    requires blocks { IfSome blocks.now (AreBlocksOf weights.now.matrix) }
     ensures assignment { IfOk result (IsAssignment weights.now) }
     ensures matching { IfOk result (λ a. a.matching ≡ assignment.matching) }
-    ensures room { IfOk result (λ a. HasRoom (cols pattern.now) a.top W.limit) }
+    ensures room { IfOk result (λ a. HasRoom (cols weights.now.matrix) a.top W.limit) }
 {
     let top = assignment.top;
     let most = highest_price(blocks, top);
     let Some(blocks) = blocks else {
         return Ok(assignment);
     };
-    if !W::has_room(pattern.cols(), most) {
+    if !W::has_room(weights.cols(), most) {
         return Ok(assignment);
     }
-    let duals = blocks.duals(alloc, pattern, weights, top)?;
-    let prices = blocks.prices(alloc, pattern, weights, top, duals.as_slice())?;
+    let duals = blocks.duals(alloc, weights, top)?;
+    let prices = blocks.prices(alloc, weights, top, duals.as_slice())?;
     let duals = amounts(alloc, duals.as_slice(), most)?;
     let prices = amounts(alloc, prices.as_slice(), most)?;
-    at_prices(alloc, pattern, weights, assignment, prices, duals)
+    at_prices(alloc, weights, assignment, prices, duals)
 }
 
 // These numbers, or `most` where they are greater.
@@ -283,10 +268,8 @@ fn has_single(pattern: &Pattern) -> bool {
 }
 
 // Whether all entries weigh so much. Any full matching is a heaviest one then.
-fn are_equal(pattern: &Pattern, weights: &Weights, weight: u64) -> bool
-    requires of { weights.now.matrix ≡ pattern.now }
-{
-    for col in 0..pattern.cols() {
+fn are_equal(weights: &Weights, weight: u64) -> bool {
+    for col in 0..weights.cols() {
         for other in weights.weights_of(Col(col)) {
             if *other != weight {
                 return false;

@@ -10,11 +10,12 @@ ghost use Rattle.integer_diagonal.specs.Distances.{AreNear, AreWithin};
 use crate::amount::Amount;
 use crate::assignment::Assignment;
 use crate::frontier::Frontier;
-use crate::side::Side;
+use crate::side::VertexSide;
 use crate::weighted_pattern::WeightedPattern;
 use crate::width::Width;
 use bip_graph::Matching;
 use sp_ids::{Col, Id, OutOfMemory, Row};
+use sp_pattern::Neighbours;
 use std::alloc::{AllocError, Global};
 
 /// How far the vertices of one side are from the nearest unmatched one of the other by reduced costs,
@@ -23,7 +24,7 @@ use std::alloc::{AllocError, Global};
 /// The side that is searched from is called near, the other far.
 #[derive(Drop)]
 pub struct Distances<W: Width> {
-    pub side: Side,
+    pub side: VertexSide,
     pub of_far: Vec<Amount<W>>,
     pub radius: Amount<W>,
     pub frontier: Frontier<W>,
@@ -40,22 +41,23 @@ impl<W: Width> Distances<W> {
         alloc: Global,
         graph: &WeightedPattern,
         assignment: &Assignment<W>,
-        side: Side,
+        side: VertexSide,
         unmatched: u32,
     ) -> Result<Distances<W>, OutOfMemory>
-        requires square { graph.now.pattern.now.rows ≡ cols graph.now.pattern.now }
+        requires square { graph.now.weights.now.matrix.rows ≡ cols graph.now.weights.now.matrix }
         requires assignment { IsAssignment graph.now.weights.now assignment.now }
-        requires room { HasRoom (cols graph.now.pattern.now) assignment.now.top W.limit }
-        ensures { IfOk result (λ l. AreWithin graph.now.pattern.now.rows assignment.now.top l) }
+        requires room { HasRoom (cols graph.now.weights.now.matrix) assignment.now.top W.limit }
+        ensures { IfOk result
+            (λ l. AreWithin graph.now.weights.now.matrix.rows assignment.now.top l) }
     {
-        let of_far = vec![in alloc; Amount::infinity(); graph.pattern.rows() as usize]?;
+        let of_far = vec![in alloc; Amount::infinity(); graph.weights.rows() as usize]?;
         let mut distances = Distances {
             side,
             of_far,
             radius: Amount::zero(),
             frontier: Frontier::new(alloc),
         };
-        for near in 0..graph.pattern.rows() {
+        for near in 0..graph.weights.rows() {
             if side.mate(&assignment.matching, near).is_none() {
                 distances.scan(graph, assignment, near, Amount::zero())?;
             }
@@ -66,7 +68,7 @@ impl<W: Width> Distances<W> {
 
     /// By how much the price of a row rises, or the dual variable of a column: by how much nearer
     /// than the radius it is, or by its distance, where that is from the rows.
-    pub fn rise(&self, matching: &Matching, of: Side, vertex: u32) -> Amount<W>
+    pub fn rise(&self, matching: &Matching, of: VertexSide, vertex: u32) -> Amount<W>
         requires vertex { vertex < matching.now.rows }
         requires square { matching.now.rows ≡ matching.now.cols }
         requires far { length self.now.of_far.items ≡ matching.now.rows }
@@ -79,8 +81,8 @@ impl<W: Width> Distances<W> {
             self.label(vertex)
         };
         match self.side {
-            Side::Columns => self.radius - label,
-            Side::Rows => label,
+            VertexSide::Columns => self.radius - label,
+            VertexSide::Rows => label,
         }
     }
 
@@ -117,14 +119,15 @@ impl<W: Width> Distances<W> {
         assignment: &Assignment<W>,
         wanted: u32,
     ) -> Result<(), AllocError>
-        requires square { graph.now.pattern.now.rows ≡ cols graph.now.pattern.now }
+        requires square { graph.now.weights.now.matrix.rows ≡ cols graph.now.weights.now.matrix }
         requires assignment { IsAssignment graph.now.weights.now assignment.now }
-        requires room { HasRoom (cols graph.now.pattern.now) assignment.now.top W.limit }
-        requires near { AreNear graph.now.pattern.now.rows assignment.now.top self.old }
-        ensures { OnOk result (AreWithin graph.now.pattern.now.rows assignment.now.top self.new) }
+        requires room { HasRoom (cols graph.now.weights.now.matrix) assignment.now.top W.limit }
+        requires near { AreNear graph.now.weights.now.matrix.rows assignment.now.top self.old }
+        ensures { OnOk result
+            (AreWithin graph.now.weights.now.matrix.rows assignment.now.top self.new) }
     {
         let mut wanted = wanted;
-        for _turn in 0..graph.pattern.rows() {
+        for _turn in 0..graph.weights.rows() {
             if wanted == 0 {
                 return Ok(());
             }
@@ -169,17 +172,18 @@ impl<W: Width> Distances<W> {
         near: u32,
         depth: Amount<W>,
     ) -> Result<(), AllocError>
-        requires square { graph.now.pattern.now.rows ≡ cols graph.now.pattern.now }
+        requires square { graph.now.weights.now.matrix.rows ≡ cols graph.now.weights.now.matrix }
         requires assignment { IsAssignment graph.now.weights.now assignment.now }
-        requires room { HasRoom (cols graph.now.pattern.now) assignment.now.top W.limit }
-        requires vertex { near < graph.now.pattern.now.rows }
+        requires room { HasRoom (cols graph.now.weights.now.matrix) assignment.now.top W.limit }
+        requires vertex { near < graph.now.weights.now.matrix.rows }
         requires depth { depth ≤ assignment.now.top }
-        requires near { AreNear graph.now.pattern.now.rows assignment.now.top self.old }
-        ensures { OnOk result (AreNear graph.now.pattern.now.rows assignment.now.top self.new) }
+        requires near { AreNear graph.now.weights.now.matrix.rows assignment.now.top self.old }
+        ensures { OnOk result
+            (AreNear graph.now.weights.now.matrix.rows assignment.now.top self.new) }
     {
         match self.side {
-            Side::Columns => self.scan_col(graph, assignment, Col(near), depth),
-            Side::Rows => self.scan_row(graph, assignment, Row(near), depth),
+            VertexSide::Columns => self.scan_col(graph, assignment, Col(near), depth),
+            VertexSide::Rows => self.scan_row(graph, assignment, Row(near), depth),
         }
     }
 
@@ -192,15 +196,16 @@ impl<W: Width> Distances<W> {
         depth: Amount<W>,
     ) -> Result<(), AllocError>
         requires assignment { IsAssignment graph.now.weights.now assignment.now }
-        requires room { HasRoom (cols graph.now.pattern.now) assignment.now.top W.limit }
-        requires col { col < cols graph.now.pattern.now }
+        requires room { HasRoom (cols graph.now.weights.now.matrix) assignment.now.top W.limit }
+        requires col { col < cols graph.now.weights.now.matrix }
         requires depth { depth ≤ assignment.now.top }
-        requires near { AreNear graph.now.pattern.now.rows assignment.now.top self.old }
-        ensures { OnOk result (AreNear graph.now.pattern.now.rows assignment.now.top self.new) }
+        requires near { AreNear graph.now.weights.now.matrix.rows assignment.now.top self.old }
+        ensures { OnOk result
+            (AreNear graph.now.weights.now.matrix.rows assignment.now.top self.new) }
     {
         let farthest = Amount::of(assignment.top);
         let dual = assignment.duals[col.0 as usize];
-        let rows = graph.pattern.rows_of(col);
+        let rows = graph.weights.rows_of(col);
         let weights = graph.weights.weights_of(col);
         for k in 0..rows.len() {
             let row = rows[k].number();
@@ -220,15 +225,16 @@ impl<W: Width> Distances<W> {
         depth: Amount<W>,
     ) -> Result<(), AllocError>
         requires assignment { IsAssignment graph.now.weights.now assignment.now }
-        requires room { HasRoom (cols graph.now.pattern.now) assignment.now.top W.limit }
-        requires row { row < graph.now.pattern.now.rows }
+        requires room { HasRoom (cols graph.now.weights.now.matrix) assignment.now.top W.limit }
+        requires row { row < graph.now.weights.now.matrix.rows }
         requires depth { depth ≤ assignment.now.top }
-        requires near { AreNear (cols graph.now.pattern.now) assignment.now.top self.old }
-        ensures { OnOk result (AreNear (cols graph.now.pattern.now) assignment.now.top self.new) }
+        requires near { AreNear (cols graph.now.weights.now.matrix) assignment.now.top self.old }
+        ensures { OnOk result
+            (AreNear (cols graph.now.weights.now.matrix) assignment.now.top self.new) }
     {
         let farthest = Amount::of(assignment.top);
         let price = assignment.prices[row.0 as usize];
-        let cols = graph.pattern.cols_of(row);
+        let cols = graph.weights.pattern().cols_of(row);
         let weights = graph.weights_of_row(row);
         for k in 0..cols.len() {
             let col = cols[k];

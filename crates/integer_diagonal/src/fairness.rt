@@ -13,7 +13,7 @@ use crate::assignment::Assignment;
 use crate::width::Width;
 use bip_graph::Matching;
 use sp_ids::{Col, Id, OutOfMemory};
-use sp_pattern::{Pattern, Weights};
+use sp_pattern::{Neighbours, Weights};
 use std::alloc::Global;
 
 /// The matching at new prices and dual variables, where these are fair: no entry costs less than
@@ -25,23 +25,21 @@ use std::alloc::Global;
 /// list of dual variables. Work: one look at each entry.
 pub fn at_prices<W: Width>(
     alloc: Global,
-    pattern: &Pattern,
     weights: &Weights,
     assignment: Assignment<W>,
     prices: Vec<Amount<W>>,
     duals: Vec<Amount<W>>,
 ) -> Result<Assignment<W>, OutOfMemory>
-    requires of { weights.now.matrix ≡ pattern.now }
     requires assignment { IsAssignment weights.now assignment }
-    requires room { HasRoom (cols pattern.now) assignment.top W.limit }
-    requires rows { length prices.items ≡ pattern.now.rows }
-    requires cols { length duals.items ≡ cols pattern.now }
+    requires room { HasRoom (cols weights.now.matrix) assignment.top W.limit }
+    requires rows { length prices.items ≡ weights.now.matrix.rows }
+    requires cols { length duals.items ≡ cols weights.now.matrix }
     ensures assignment { IfOk result (IsAssignment weights.now) }
     ensures matching { IfOk result (λ a. a.matching ≡ assignment.matching) }
-    ensures room { IfOk result (λ a. HasRoom (cols pattern.now) a.top W.limit) }
+    ensures room { IfOk result (λ a. HasRoom (cols weights.now.matrix) a.top W.limit) }
 {
     let (low, high) = (prices.as_slice(), duals.as_slice());
-    let Some(top) = covering_top(pattern.cols(), assignment.top, low, high) else {
+    let Some(top) = covering_top(weights.cols(), assignment.top, low, high) else {
         return Ok(assignment);
     };
     let duals = risen(alloc, high, Amount::of(top - assignment.top))?;
@@ -51,7 +49,7 @@ pub fn at_prices<W: Width>(
         duals,
         matching: assignment.matching,
     };
-    if is_fair(pattern, weights, &candidate) {
+    if is_fair(weights, &candidate) {
         return Ok(candidate);
     }
     Ok(Assignment {
@@ -123,14 +121,13 @@ fn risen<W: Width>(
 
 /// Whether no entry costs less than its column's dual variable, and each pair costs as much. Work:
 /// at most one look at each entry; it ends at the first column where that is not so.
-pub fn is_fair<W: Width>(pattern: &Pattern, weights: &Weights, candidate: &Assignment<W>) -> bool
-    requires of { weights.now.matrix ≡ pattern.now }
+pub fn is_fair<W: Width>(weights: &Weights, candidate: &Assignment<W>) -> bool
     requires room { candidate.now.top + candidate.now.top < W.limit }
     requires candidate { IsCandidate (priced weights.now candidate.now) candidate.now.matching }
     ensures { result ≡ true → IsAssignment weights.now candidate.now }
 {
-    for col in 0..pattern.cols() {
-        if !is_fair_column(pattern, weights, candidate, Col(col)) {
+    for col in 0..weights.cols() {
+        if !is_fair_column(weights, candidate, Col(col)) {
             return false;
         }
     }
@@ -138,22 +135,16 @@ pub fn is_fair<W: Width>(pattern: &Pattern, weights: &Weights, candidate: &Assig
 }
 
 // The same of the entries of one column.
-fn is_fair_column<W: Width>(
-    pattern: &Pattern,
-    weights: &Weights,
-    candidate: &Assignment<W>,
-    col: Col,
-) -> bool
-    requires of { weights.now.matrix ≡ pattern.now }
+fn is_fair_column<W: Width>(weights: &Weights, candidate: &Assignment<W>, col: Col) -> bool
     requires room { candidate.now.top + candidate.now.top < W.limit }
     requires candidate { IsCandidate (priced weights.now candidate.now) candidate.now.matching }
-    requires col { col < cols pattern.now }
+    requires col { col < cols weights.now.matrix }
     ensures { result ≡ true → IsFairColumn (priced weights.now candidate.now)
         candidate.now.matching.pairs col }
 {
     let mate = mate_of(&candidate.matching, col);
     let dual = candidate.duals[col.0 as usize];
-    let rows = pattern.rows_of(col);
+    let rows = weights.rows_of(col);
     let weights = weights.weights_of(col);
     for k in 0..rows.len() {
         let row = rows[k].number();

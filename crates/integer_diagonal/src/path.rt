@@ -10,6 +10,7 @@ ghost use Rattle.integer_diagonal.specs.Amounts.{HasRoom};
 ghost use Rattle.integer_diagonal.specs.Duals.{IsAssignment, priced_from};
 ghost use Rattle.bip_defs.specs.Bottleneck.{IsFull};
 ghost use Rattle.integer_diagonal.specs.SearchTree.{IsRaised};
+ghost use Rattle.integer_diagonal.specs.Searches.{CanRise, CanSearch, Extends};
 ghost use Rattle.sp_pattern.specs.Weights.{Weighing};
 
 use crate::amount::Amount;
@@ -18,7 +19,7 @@ use crate::search::DijkstraSearch;
 use crate::width::Width;
 use bip_graph::Queue;
 use sp_ids::{Col, OutOfMemory, Row};
-use sp_pattern::{Pattern, Weights};
+use sp_pattern::{Neighbours, Weights};
 use std::alloc::{AllocError, Global};
 
 /// A search, and the augmenting path to the row that it found.
@@ -29,13 +30,13 @@ pub struct PathSearch<W: Width> {
 }
 
 impl<W: Width> PathSearch<W> {
-    /// For the columns of this pattern, or `OutOfMemory` where what it keeps can't be had.
-    pub fn new(alloc: Global, pattern: &Pattern) -> Result<PathSearch<W>, OutOfMemory>
-        ensures { IfOk result (IsReady pattern.now) }
+    /// For the columns of this matrix, or `OutOfMemory` where what it keeps can't be had.
+    pub fn new(alloc: Global, weights: &Weights) -> Result<PathSearch<W>, OutOfMemory>
+        ensures { IfOk result (IsReady weights.now.matrix) }
     {
         Ok(PathSearch {
-            search: DijkstraSearch::new(alloc, pattern.rows())?,
-            path: Vec::with_capacity(alloc, pattern.cols() as usize)?,
+            search: DijkstraSearch::new(alloc, weights.rows())?,
+            path: Vec::with_capacity(alloc, weights.cols() as usize)?,
         })
     }
 
@@ -48,29 +49,20 @@ impl<W: Width> PathSearch<W> {
     /// came to.
     pub fn extend(
         &mut self,
-        pattern: &Pattern,
         weights: &Weights,
         assignment: &mut Assignment<W>,
         root: Col,
     ) -> Result<bool, AllocError>
-        requires of { weights.now.matrix ≡ pattern.now }
-        requires assignment { IsAssignment weights.now assignment.old }
-        requires root { root < cols pattern.now }
-        requires free { ¬ Among root (cols_of assignment.old.matching.pairs) }
-        requires few { cols pattern.now < 2 ^ 32 }
-        requires fits { HasRoom (cols pattern.now) assignment.old.top W.limit }
-        requires ready { IsReady pattern.now self.old }
-        ensures assignment { OnOk result (IsAssignment weights.now assignment.new) }
-        ensures top { OnOk result (assignment.new.top ≡ assignment.old.top) }
-        ensures covered { OnOk result
-            (Covers assignment.old.matching.pairs assignment.new.matching.pairs) }
+        requires can { CanSearch weights.now assignment.old root W.limit }
+        requires ready { IsReady weights.now.matrix self.old }
+        ensures extends { OnOk result (Extends weights.now assignment.old assignment.new) }
         ensures found { IfOk result
             (λ b. b ≡ true → Among root (cols_of assignment.new.matching.pairs)
-            × IsReady pattern.now self.new) }
+            × IsReady weights.now.matrix self.new) }
         ensures stuck { IfOk result
-            (λ b. b ≡ false → (other : List Place) → ¬ IsFull pattern.now other) }
+            (λ b. b ≡ false → (other : List Place) → ¬ IsFull weights.now.matrix other) }
     {
-        let nearest = self.search.find(pattern, weights, assignment, root)?;
+        let nearest = self.search.find(weights, assignment, root)?;
         if !nearest.exists() {
             return Ok(false);
         }
@@ -100,18 +92,7 @@ fn raise<W: Width>(
     depths: &[Amount<W>],
     distance: Amount<W>,
 )
-    requires lengths { length depths.now ≡ length queue.now }
-    requires in_range { (i : ℕ) → i < length queue.now
-        → (at queue.now i).0 < length assignment.old.duals.items }
-    requires cols { assignment.old.matching.cols ≡ length assignment.old.duals.items }
-    requires rows_in_range { (r c : ℕ) → Among (r, c) assignment.old.matching.pairs
-        → r < length assignment.old.prices.items }
-    requires distinct { AreDistinct (heads queue.now) }
-    requires rows_differ { AreDistinct (rows_of assignment.old.matching.pairs) }
-    requires cols_differ { AreDistinct (cols_of assignment.old.matching.pairs) }
-    requires depths { (i : ℕ) → i < length queue.now → slice_index depths.now i ≤ distance }
-    requires duals_fit { (c : ℕ) → slice_index assignment.old.duals.items c + distance < W.limit }
-    requires prices_fit { (r : ℕ) → slice_index assignment.old.prices.items r + distance < W.limit }
+    requires { CanRise assignment.old queue.now depths.now distance W.limit }
     ensures raised { (w : Weighing) (top : ℕ)
         → IsRaised (priced_from w top assignment.old) (priced_from w top assignment.new)
         assignment.old.matching.pairs (record { queue = queue.now; depths = depths.now }) distance }

@@ -9,13 +9,13 @@ use crate::amount::Amount;
 use crate::assignment::Assignment;
 use crate::distances::Distances;
 use crate::fairness::at_prices;
-use crate::side::Side;
+use crate::side::VertexSide;
 use crate::tight::match_tight;
 use crate::weighted_pattern::WeightedPattern;
 use crate::width::Width;
 use bip_graph::Matching;
 use sp_ids::OutOfMemory;
-use sp_pattern::{Pattern, Weights};
+use sp_pattern::{Neighbours, Weights};
 use std::alloc::Global;
 
 // Where no more columns than these are unmatched, a search for each of them is less work.
@@ -33,27 +33,25 @@ const FEW: u32 = 4;
 /// phases of a maximum matching of those that cost as much as the prices ask.
 pub fn match_by_phases<W: Width>(
     alloc: Global,
-    pattern: &Pattern,
     weights: &Weights,
     assignment: Assignment<W>,
 ) -> Result<Assignment<W>, OutOfMemory>
-    requires of { weights.now.matrix ≡ pattern.now }
-    requires square { pattern.now.rows ≡ cols pattern.now }
+    requires square { weights.now.matrix.rows ≡ cols weights.now.matrix }
     requires assignment { IsAssignment weights.now assignment }
-    requires room { HasRoom (cols pattern.now) assignment.top W.limit }
+    requires room { HasRoom (cols weights.now.matrix) assignment.top W.limit }
     ensures assignment { IfOk result (IsAssignment weights.now) }
-    ensures room { IfOk result (λ a. HasRoom (cols pattern.now) a.top W.limit) }
+    ensures room { IfOk result (λ a. HasRoom (cols weights.now.matrix) a.top W.limit) }
 {
     let mut assignment = assignment;
-    let mut unmatched = pattern.cols().saturating_sub(assignment.matching.size());
+    let mut unmatched = weights.cols().saturating_sub(assignment.matching.size());
     if unmatched <= FEW {
         return Ok(assignment);
     }
-    let graph = WeightedPattern::build(alloc, pattern, weights)?;
-    let mut side = Side::Columns;
-    for _turn in 0..pattern.cols() {
+    let graph = WeightedPattern::build(alloc, weights)?;
+    let mut side = VertexSide::Columns;
+    for _turn in 0..weights.cols() {
         assignment = phase(alloc, &graph, assignment, side, unmatched)?;
-        let left = pattern.cols().saturating_sub(assignment.matching.size());
+        let left = weights.cols().saturating_sub(assignment.matching.size());
         if left <= FEW || left >= unmatched {
             return Ok(assignment);
         }
@@ -69,47 +67,40 @@ fn phase<W: Width>(
     alloc: Global,
     graph: &WeightedPattern,
     assignment: Assignment<W>,
-    side: Side,
+    side: VertexSide,
     unmatched: u32,
 ) -> Result<Assignment<W>, OutOfMemory>
-    requires square { graph.now.pattern.now.rows ≡ cols graph.now.pattern.now }
+    requires square { graph.now.weights.now.matrix.rows ≡ cols graph.now.weights.now.matrix }
     requires assignment { IsAssignment graph.now.weights.now assignment }
-    requires room { HasRoom (cols graph.now.pattern.now) assignment.top W.limit }
+    requires room { HasRoom (cols graph.now.weights.now.matrix) assignment.top W.limit }
     ensures assignment { IfOk result (IsAssignment graph.now.weights.now) }
-    ensures room { IfOk result (λ a. HasRoom (cols graph.now.pattern.now) a.top W.limit) }
+    ensures room { IfOk result (λ a. HasRoom (cols graph.now.weights.now.matrix) a.top W.limit) }
 {
     let distances = Distances::spread(alloc, graph, &assignment, side, unmatched)?;
     let matching = &assignment.matching;
     let prices = higher(
         alloc,
         assignment.prices.as_slice(),
-        Side::Rows,
+        VertexSide::Rows,
         matching,
         &distances,
     )?;
     let duals = higher(
         alloc,
         assignment.duals.as_slice(),
-        Side::Columns,
+        VertexSide::Columns,
         matching,
         &distances,
     )?;
-    let assignment = at_prices(
-        alloc,
-        graph.pattern,
-        graph.weights,
-        assignment,
-        prices,
-        duals,
-    )?;
-    match_tight(alloc, graph.pattern, graph.weights, assignment)
+    let assignment = at_prices(alloc, graph.weights, assignment, prices, duals)?;
+    match_tight(alloc, graph.weights, assignment)
 }
 
 // Each price of a row, or dual variable of a column, and what it rises by.
 fn higher<W: Width>(
     alloc: Global,
     amounts: &[Amount<W>],
-    of: Side,
+    of: VertexSide,
     matching: &Matching,
     distances: &Distances<W>,
 ) -> Result<Vec<Amount<W>>, OutOfMemory>

@@ -5,9 +5,9 @@ ghost use Rattle.std.specs.Prelude.{◌≡◌, ℕ, ◌+◌, ◌<◌, ◌≤◌,
 ghost use Rattle.bip_defs.specs.Lists.{Among};
 ghost use Rattle.bip_defs.specs.Matching.{cols_of, rows_of};
 ghost use Rattle.bip_defs.specs.Matrix.{cols};
-ghost use Rattle.integer_diagonal.specs.Labels.{AreBeyond, AreListed, IsClear, IsLabelled, IsSearch, Looks, Puts, Takes, labels_of, tree_of};
+ghost use Rattle.integer_diagonal.specs.Labels.{AreBeyond, AreListed, IsClear, IsLabelled, Looks, Puts, Takes, labels_of, tree_of};
 ghost use Rattle.integer_diagonal.specs.Duals.{IsAssignment, priced};
-ghost use Rattle.integer_diagonal.specs.SearchTree.{IsGrown, IsNearest, IsSearched, IsStuck, depth};
+ghost use Rattle.integer_diagonal.specs.Searches.{CanBeCleared, CanSearch, Finds, HasLooked, StaysListed};
 ghost use Rattle.integer_diagonal.specs.Amounts.{HasRoom, infinity};
 
 use crate::amount::Amount;
@@ -16,7 +16,7 @@ use crate::frontier::Frontier;
 use crate::width::Width;
 use bip_graph::Matching;
 use sp_ids::{Col, Id, OutOfMemory, Row};
-use sp_pattern::{Pattern, Weights};
+use sp_pattern::{Neighbours, Weights};
 use std::alloc::{AllocError, Global};
 
 /// What a search keeps. The queue has the columns that it has come to, each with the place of the
@@ -104,38 +104,16 @@ impl<W: Width> DijkstraSearch<W> {
     /// unmatched row can be nearer than the one that was found (Dijkstra 1959).
     pub fn find(
         &mut self,
-        pattern: &Pattern,
         weights: &Weights,
         assignment: &Assignment<W>,
         root: Col,
     ) -> Result<Nearest<W>, AllocError>
-        requires of { weights.now.matrix ≡ pattern.now }
-        requires assignment { IsAssignment weights.now assignment.now }
-        requires root { root < cols pattern.now }
-        requires free { ¬ Among root (cols_of assignment.now.matching.pairs) }
-        requires few { cols pattern.now < 2 ^ 32 }
-        requires room { HasRoom (cols pattern.now) assignment.now.top W.limit }
-        requires clear { IsClear pattern.now.rows (tree_of self.old) (labels_of self.old) }
+        requires can { CanSearch weights.now assignment.now root W.limit }
+        requires clear { IsClear weights.now.matrix.rows (tree_of self.old) (labels_of self.old) }
         requires listed { self.old.reached.items ≡ [] }
-        ensures tree { OnOk result
-            (IsGrown (priced weights.now assignment.now) assignment.now.matching.pairs root
-            (tree_of self.new)) }
-        ensures within { IfOk result (λ n. n.distance ≤ infinity) }
-        ensures found { IfOk result
-            (λ n. n.distance < infinity
-            → IsNearest (priced weights.now assignment.now) assignment.now.matching.pairs
-            (tree_of self.new) n.row n.place n.distance
-            × IsSearched (priced weights.now assignment.now) assignment.now.matching.pairs
-            (tree_of self.new) n.distance) }
-        ensures stuck { IfOk result
-            (λ n. n.distance ≡ infinity
-            → IsStuck (priced weights.now assignment.now) assignment.now.matching.pairs
-            (tree_of self.new)) }
-        ensures listed { OnOk result (AreListed (labels_of self.new) self.new.reached.items) }
-        ensures lengths { OnOk result
-            ((length self.new.distances.items ≡ pattern.now.rows)
-            × (length self.new.settled.items ≡ pattern.now.rows)
-            × (length self.new.parents.items ≡ pattern.now.rows)) }
+        ensures finds { IfOk result (Finds (priced weights.now assignment.now)
+            assignment.now.matching.pairs root (tree_of self.new)) }
+        ensures clearable { OnOk result (CanBeCleared weights.now.matrix.rows self.new) }
     {
         let mut nearest = Nearest {
             row: 0,
@@ -143,11 +121,11 @@ impl<W: Width> DijkstraSearch<W> {
             place: 0,
         };
         self.enter(root, 0, Amount::zero())?;
-        self.scan(pattern, weights, assignment, 0, &mut nearest)?;
+        self.scan(weights, assignment, 0, &mut nearest)?;
         while let Some(closest) = self.next(nearest.distance) {
             let (distance, row) = closest;
             let place = self.settle(&assignment.matching, row, distance)?;
-            self.scan(pattern, weights, assignment, place, &mut nearest)?;
+            self.scan(weights, assignment, place, &mut nearest)?;
         }
         Ok(nearest)
     }
@@ -228,33 +206,25 @@ impl<W: Width> DijkstraSearch<W> {
     // Looks at the entries of the column at the place, the last of the queue.
     fn scan(
         &mut self,
-        pattern: &Pattern,
         weights: &Weights,
         assignment: &Assignment<W>,
         place: u32,
         nearest: &mut Nearest<W>,
     ) -> Result<(), AllocError>
-        requires of { weights.now.matrix ≡ pattern.now }
         requires assignment { IsAssignment weights.now assignment.now }
-        requires room { HasRoom (cols pattern.now) assignment.now.top W.limit }
+        requires room { HasRoom (cols weights.now.matrix) assignment.now.top W.limit }
         requires place { place < length self.old.queue.items }
         requires search { (root : ℕ)
-            × IsSearch (priced weights.now assignment.now) assignment.now.matching.pairs root
-            (tree_of self.old) (labels_of self.old) nearest.old self.old.reached.items
-            (depth (tree_of self.old) place) place }
+            × HasLooked weights.now assignment.now root self.old nearest.old place place }
         ensures tree { tree_of self.new ≡ tree_of self.old }
         ensures search { OnOk result ((root : ℕ)
-            → IsSearch (priced weights.now assignment.now) assignment.now.matching.pairs root
-            (tree_of self.old) (labels_of self.old) nearest.old self.old.reached.items
-            (depth (tree_of self.old) place) place
-            → IsSearch (priced weights.now assignment.now) assignment.now.matching.pairs root
-            (tree_of self.new) (labels_of self.new) nearest.new self.new.reached.items
-            (depth (tree_of self.new) place) (place + 1)) }
+            → HasLooked weights.now assignment.now root self.old nearest.old place place
+            → HasLooked weights.now assignment.now root self.new nearest.new place (place + 1)) }
     {
         let col = Col(self.queue[place as usize].0);
         let depth = self.depths[place as usize];
         let dual = assignment.duals[col.0 as usize];
-        let rows = pattern.rows_of(col);
+        let rows = weights.rows_of(col);
         let weights = weights.weights_of(col);
         for k in 0..rows.len() {
             let row = rows[k].number();
@@ -282,9 +252,7 @@ impl<W: Width> DijkstraSearch<W> {
             (Looks matching.now.pairs row distance place (labels_of self.old) nearest.old
             (labels_of self.new) nearest.new) }
         ensures tree { tree_of self.new ≡ tree_of self.old }
-        ensures listed { OnOk result
-            (AreListed (labels_of self.old) self.old.reached.items
-            → AreListed (labels_of self.new) self.new.reached.items) }
+        ensures listed { OnOk result (StaysListed self.old self.new) }
     {
         if distance >= nearest.distance || distance >= self.distances[row as usize] {
             return Ok(());
@@ -310,9 +278,7 @@ impl<W: Width> DijkstraSearch<W> {
         ensures put { OnOk result
             (Puts (labels_of self.old) (labels_of self.new) row distance place) }
         ensures tree { tree_of self.new ≡ tree_of self.old }
-        ensures listed { OnOk result
-            (AreListed (labels_of self.old) self.old.reached.items
-            → AreListed (labels_of self.new) self.new.reached.items) }
+        ensures listed { OnOk result (StaysListed self.old self.new) }
     {
         self.list(row)?;
         let at = row as usize;

@@ -13,7 +13,7 @@ use crate::assignment::Assignment;
 use crate::path::PathSearch;
 use crate::width::Width;
 use sp_ids::{Col, OutOfMemory};
-use sp_pattern::{Pattern, Weights};
+use sp_pattern::{Neighbours, Weights};
 use std::alloc::{AllocError, Global};
 
 // Searches that come to no more columns than these each are less work than phases.
@@ -24,27 +24,25 @@ const SHORT: u64 = 20;
 /// What the searches keep is given back at the end.
 pub fn match_all<W: Width>(
     alloc: Global,
-    pattern: &Pattern,
     weights: &Weights,
     assignment: &mut Assignment<W>,
 ) -> Result<(), OutOfMemory>
-    requires of { weights.now.matrix ≡ pattern.now }
     requires assignment { IsAssignment weights.now assignment.old }
-    requires square { pattern.now.rows ≡ cols pattern.now }
-    requires few { cols pattern.now < 2 ^ 32 }
-    requires room { HasRoom (cols pattern.now) assignment.old.top W.limit }
-    requires full { (m : List Place) × IsFull pattern.now m }
+    requires square { weights.now.matrix.rows ≡ cols weights.now.matrix }
+    requires few { cols weights.now.matrix < 2 ^ 32 }
+    requires room { HasRoom (cols weights.now.matrix) assignment.old.top W.limit }
+    requires full { (m : List Place) × IsFull weights.now.matrix m }
     ensures assignment { OnOk result (IsAssignment weights.now assignment.new) }
     ensures top { OnOk result (assignment.new.top ≡ assignment.old.top) }
-    ensures all { OnOk result ((c : ℕ) → c < cols pattern.now
+    ensures all { OnOk result ((c : ℕ) → c < cols weights.now.matrix
         → Among c (cols_of assignment.new.matching.pairs)) }
 {
-    if assignment.matching.size() == pattern.cols() {
+    if assignment.matching.size() == weights.cols() {
         return Ok(());
     }
-    let mut paths = PathSearch::new(alloc, pattern)?;
-    for col in 0..pattern.cols() {
-        match_one(pattern, weights, assignment, &mut paths, Col(col))?;
+    let mut paths = PathSearch::new(alloc, weights)?;
+    for col in 0..weights.cols() {
+        match_one(weights, assignment, &mut paths, Col(col))?;
     }
     Ok(())
 }
@@ -53,51 +51,47 @@ pub fn match_all<W: Width>(
 /// more columns than the matrix has, and to more than a few each. There must be a full matching.
 pub fn match_early<W: Width>(
     alloc: Global,
-    pattern: &Pattern,
     weights: &Weights,
     assignment: &mut Assignment<W>,
 ) -> Result<(), OutOfMemory>
-    requires of { weights.now.matrix ≡ pattern.now }
     requires assignment { IsAssignment weights.now assignment.old }
-    requires square { pattern.now.rows ≡ cols pattern.now }
-    requires few { cols pattern.now < 2 ^ 32 }
-    requires room { HasRoom (cols pattern.now) assignment.old.top W.limit }
-    requires full { (m : List Place) × IsFull pattern.now m }
+    requires square { weights.now.matrix.rows ≡ cols weights.now.matrix }
+    requires few { cols weights.now.matrix < 2 ^ 32 }
+    requires room { HasRoom (cols weights.now.matrix) assignment.old.top W.limit }
+    requires full { (m : List Place) × IsFull weights.now.matrix m }
     ensures assignment { OnOk result (IsAssignment weights.now assignment.new) }
     ensures top { OnOk result (assignment.new.top ≡ assignment.old.top) }
 {
-    let mut paths = PathSearch::new(alloc, pattern)?;
-    for col in 0..pattern.cols() {
+    let mut paths = PathSearch::new(alloc, weights)?;
+    for col in 0..weights.cols() {
         let few = SHORT.saturating_mul(paths.search.searches);
-        if paths.search.visits > few.saturating_add(pattern.cols() as u64) {
+        if paths.search.visits > few.saturating_add(weights.cols() as u64) {
             return Ok(());
         }
-        match_one(pattern, weights, assignment, &mut paths, Col(col))?;
+        match_one(weights, assignment, &mut paths, Col(col))?;
     }
     Ok(())
 }
 
 // Gives a column a mate, if it has none, where those before it have theirs.
 fn match_one<W: Width>(
-    pattern: &Pattern,
     weights: &Weights,
     assignment: &mut Assignment<W>,
     paths: &mut PathSearch<W>,
     col: Col,
 ) -> Result<(), AllocError>
-    requires of { weights.now.matrix ≡ pattern.now }
-    requires square { pattern.now.rows ≡ cols pattern.now }
-    requires few { cols pattern.now < 2 ^ 32 }
-    requires fits { HasRoom (cols pattern.now) assignment.old.top W.limit }
-    requires full { (m : List Place) × IsFull pattern.now m }
-    requires col { col < cols pattern.now }
-    requires mated { AreMated weights.now pattern.now assignment.old paths.old col }
+    requires square { weights.now.matrix.rows ≡ cols weights.now.matrix }
+    requires few { cols weights.now.matrix < 2 ^ 32 }
+    requires fits { HasRoom (cols weights.now.matrix) assignment.old.top W.limit }
+    requires full { (m : List Place) × IsFull weights.now.matrix m }
+    requires col { col < cols weights.now.matrix }
+    requires mated { AreMated weights.now assignment.old paths.old col }
     ensures mated { OnOk result
-        (AreMated weights.now pattern.now assignment.new paths.new (col + 1)) }
+        (AreMated weights.now assignment.new paths.new (col + 1)) }
     ensures top { OnOk result (assignment.new.top ≡ assignment.old.top) }
 {
     if assignment.matching.row_of(col).is_none() {
-        let found = paths.extend(pattern, weights, assignment, col)?;
+        let found = paths.extend(weights, assignment, col)?;
         if !found {
             unreachable!()
         }

@@ -7,19 +7,19 @@ use sp_ids::{Col, Row};
 
 /// The columns or the rows of a square matrix.
 #[derive(Clone, Copy, PartialEq, Eq)]
-pub enum Side {
+pub enum VertexSide {
     Columns,
     Rows,
 }
 
-impl Side {
+impl VertexSide {
     /// The other side.
-    pub fn other(self) -> Side
+    pub fn other(self) -> VertexSide
         ensures { result ≢ self }
     {
         match self {
-            Side::Columns => Side::Rows,
-            Side::Rows => Side::Columns,
+            VertexSide::Columns => VertexSide::Rows,
+            VertexSide::Rows => VertexSide::Columns,
         }
     }
 
@@ -31,11 +31,11 @@ impl Side {
     {
         matching.is_matching();
         match self {
-            Side::Columns => match matching.row_of(Col(vertex)) {
+            VertexSide::Columns => match matching.row_of(Col(vertex)) {
                 Some(row) => Some(row.0),
                 None => None,
             },
-            Side::Rows => match matching.col_of(Row(vertex)) {
+            VertexSide::Rows => match matching.col_of(Row(vertex)) {
                 Some(col) => Some(col.0),
                 None => None,
             },

@@ -12,7 +12,7 @@ use crate::assignment::Assignment;
 use crate::width::Width;
 use bip_graph::Matching;
 use sp_ids::{Col, OutOfMemory, Row};
-use sp_pattern::{Pattern, Weights};
+use sp_pattern::{Neighbours, Weights};
 use std::alloc::Global;
 
 /// Each column at its greatest weight, then each row at the greatest of what its entries weigh
@@ -21,20 +21,18 @@ use std::alloc::Global;
 /// No entry weighs more than `top`. Work: two looks at each entry.
 pub fn start<W: Width>(
     alloc: Global,
-    pattern: &Pattern,
     weights: &Weights,
     top: u64,
 ) -> Result<Assignment<W>, OutOfMemory>
-    requires of { weights.now.matrix ≡ pattern.now }
     requires small { AreAtMost weights.now top }
-    requires room { HasRoom (cols pattern.now) top W.limit }
+    requires room { HasRoom (cols weights.now.matrix) top W.limit }
     ensures assignment { IfOk result (IsAssignment weights.now) }
     ensures top { IfOk result (λ a. a.top ≡ top) }
     ensures empty { IfOk result (λ a. a.matching.pairs ≡ []) }
 {
-    let duals = first_duals(alloc, pattern, weights, top)?;
-    let prices = first_prices(alloc, pattern, weights, top, duals.as_slice())?;
-    let matching = Matching::empty(alloc, pattern.rows(), pattern.cols())?;
+    let duals = first_duals(alloc, weights, top)?;
+    let prices = first_prices(alloc, weights, top, duals.as_slice())?;
+    let matching = Matching::empty(alloc, weights.rows(), weights.cols())?;
     matching.is_matching();
     Ok(Assignment {
         top,
@@ -45,12 +43,11 @@ pub fn start<W: Width>(
 }
 
 /// The greatest weight of an entry, or 0.
-pub fn greatest_of_all(pattern: &Pattern, weights: &Weights) -> u64
-    requires { weights.now.matrix ≡ pattern.now }
+pub fn greatest_of_all(weights: &Weights) -> u64
     ensures { AreAtMost weights.now result }
 {
     let mut most = 0;
-    for col in 0..pattern.cols() {
+    for col in 0..weights.cols() {
         let here = greatest(weights.weights_of(Col(col)));
         if here > most {
             most = here;
@@ -63,17 +60,16 @@ pub fn greatest_of_all(pattern: &Pattern, weights: &Weights) -> u64
 // once more: so the rows' prices are not below 0.
 fn first_duals<W: Width>(
     alloc: Global,
-    pattern: &Pattern,
     weights: &Weights,
     top: u64,
 ) -> Result<Vec<Amount<W>>, OutOfMemory>
-    requires of { weights.now.matrix ≡ pattern.now }
     requires small { AreAtMost weights.now top }
     requires fits { top + top < W.limit }
-    ensures { IfOk result (λ duals. AreFirstDuals weights.now top (cols pattern.now) duals.items) }
+    ensures { IfOk result
+        (λ duals. AreFirstDuals weights.now top (cols weights.now.matrix) duals.items) }
 {
-    let mut duals = Vec::with_capacity(alloc, pattern.cols() as usize)?;
-    for col in 0..pattern.cols() {
+    let mut duals = Vec::with_capacity(alloc, weights.cols() as usize)?;
+    for col in 0..weights.cols() {
         let least = top - greatest(weights.weights_of(Col(col)));
         duals.push(Amount::of(top) + Amount::of(least))?;
     }
@@ -97,54 +93,43 @@ fn greatest(weights: &[u64]) -> u64
 // Each row's least price at which none of its entries costs less than its column's dual variable.
 fn first_prices<W: Width>(
     alloc: Global,
-    pattern: &Pattern,
     weights: &Weights,
     top: u64,
     duals: &[Amount<W>],
 ) -> Result<Vec<Amount<W>>, OutOfMemory>
-    requires of { weights.now.matrix ≡ pattern.now }
     requires small { AreAtMost weights.now top }
     requires fits { top + top < W.limit }
-    requires duals { AreFirstDuals weights.now top (cols pattern.now) duals.now }
+    requires duals { AreFirstDuals weights.now top (cols weights.now.matrix) duals.now }
     ensures { IfOk result
-        (λ prices. AreFirstPrices weights.now top (cols pattern.now) duals.now prices.items) }
+        (λ u. AreFirstPrices weights.now top (cols weights.now.matrix) duals.now u.items) }
 {
-    let mut prices = vec![in alloc; Amount::zero(); pattern.rows() as usize]?;
-    for col in 0..pattern.cols() {
-        raise_rows(
-            pattern,
-            weights,
-            top,
-            duals,
-            prices.as_mut_slice(),
-            Col(col),
-        );
+    let mut prices = vec![in alloc; Amount::zero(); weights.rows() as usize]?;
+    for col in 0..weights.cols() {
+        raise_rows(weights, top, duals, prices.as_mut_slice(), Col(col));
     }
     Ok(prices)
 }
 
 // Raises the prices of the rows of a column's entries to what its dual variable asks of them.
 fn raise_rows<W: Width>(
-    pattern: &Pattern,
     weights: &Weights,
     top: u64,
     duals: &[Amount<W>],
     prices: &mut [Amount<W>],
     col: Col,
 )
-    requires of { weights.now.matrix ≡ pattern.now }
     requires small { AreAtMost weights.now top }
     requires fits { top + top < W.limit }
-    requires duals { AreFirstDuals weights.now top (cols pattern.now) duals.now }
-    requires rows { length prices.old ≡ pattern.now.rows }
-    requires col { col < cols pattern.now }
+    requires duals { AreFirstDuals weights.now top (cols weights.now.matrix) duals.now }
+    requires rows { length prices.old ≡ weights.now.matrix.rows }
+    requires col { col < cols weights.now.matrix }
     requires low { (r : ℕ) → slice_index prices.old r ≤ top }
     ensures low { (r : ℕ) → slice_index prices.new r ≤ top }
     ensures rise { (r : ℕ) → slice_index prices.old r ≤ slice_index prices.new r }
-    ensures covers { (r : ℕ) → IsEntry pattern.now r col
+    ensures covers { (r : ℕ) → IsEntry weights.now.matrix r col
         → slice_index duals.now col ≤ slice_index prices.new r + cost top weights.now r col }
 {
-    let rows = pattern.rows_of(col);
+    let rows = weights.rows_of(col);
     let weights = weights.weights_of(col);
     let dual = duals[col.0 as usize];
     for k in 0..rows.len() {

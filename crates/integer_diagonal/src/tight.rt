@@ -11,7 +11,7 @@ use crate::assignment::Assignment;
 use crate::width::Width;
 use breadth_first_match::complete;
 use sp_ids::{Col, OutOfMemory, Row};
-use sp_pattern::{Filter, Pattern, Weights};
+use sp_pattern::{Filter, Weights};
 use std::alloc::Global;
 
 /// As many pairs as can be had of the tight entries: those that cost as much as their columns' dual
@@ -23,13 +23,11 @@ use std::alloc::Global;
 /// maximum matching of the tight ones.
 pub fn match_tight<W: Width>(
     alloc: Global,
-    pattern: &Pattern,
     weights: &Weights,
     assignment: Assignment<W>,
 ) -> Result<Assignment<W>, OutOfMemory>
-    requires of { weights.now.matrix ≡ pattern.now }
     requires assignment { IsAssignment weights.now assignment }
-    requires room { HasRoom (cols pattern.now) assignment.top W.limit }
+    requires room { HasRoom (cols weights.now.matrix) assignment.top W.limit }
     ensures assignment { IfOk result (IsAssignment weights.now) }
     ensures same { IfOk result (λ a. (a.top ≡ assignment.top)
         × (a.prices ≡ assignment.prices) × (a.duals ≡ assignment.duals)) }
@@ -37,7 +35,7 @@ pub fn match_tight<W: Width>(
     ensures maximum { IfOk result
         (λ a. IsMaximum (cheap (priced weights.now a)) a.matching.pairs) }
 {
-    let tight = pattern.filtered(
+    let tight = weights.pattern().filtered(
         alloc,
         &Tight {
             weights,

@@ -1,6 +1,3 @@
-use Rattle.std.proofs.Common.{sym, subst}
-use Rattle.bip_defs.specs.Matrix.{Matrix}
-use Rattle.bip_graph.specs.Matching.{IsMatchingOf}
 use Rattle.integer_diagonal.proofs.FairnessLemmas.{free_candidate}
 use Rattle.integer_diagonal.specs.Duals.{priced}
 use Rattle.integer_diagonal.proofs.answer.first_pairs.Goals as goal
@@ -8,4 +5,4 @@ use Rattle.integer_diagonal.proofs.answer.first_pairs.Goals as goal
 pub is_fair-requires-clause-candidate : goal.is_fair-requires-clause-candidate
 is_fair-requires-clause-candidate g c =
     free_candidate (priced c.args.weights.now c.args.assignment) c.args.assignment.matching c.args.full c.requires.assignment c.requires.empty
-    (subst (λ (z : Matrix). IsMatchingOf z c.args.full) (sym c.requires.of) c.requires.matching)
+    c.requires.matching

@@ -1,5 +1,4 @@
-use Rattle.std.proofs.Common.{ap, arith}
-use Rattle.bip_defs.specs.Matrix.{cols}
+use Rattle.std.proofs.Common.{arith}
 use Rattle.integer_diagonal.proofs.FairnessLemmas.{fair_assigned}
 use Rattle.integer_diagonal.specs.Duals.{priced}
 use Rattle.integer_diagonal.proofs.fairness.is_fair.Goals as goal
@@ -7,5 +6,4 @@ use Rattle.integer_diagonal.proofs.fairness.is_fair.Goals as goal
 pub returns : goal.returns
 returns g c holds =
     let all = c.loop-col-test.false in
-    let same = ap cols c.requires.of in
-    fair_assigned (priced c.args.weights.now c.args.candidate.now) c.args.candidate.now.matching c.requires.candidate (λ d lt. c.loop-col.invariant d (omega (arith, lt, all, same, c.cols-col-end.ensures)))
+    fair_assigned (priced c.args.weights.now c.args.candidate.now) c.args.candidate.now.matching c.requires.candidate (λ d lt. c.loop-col.invariant d (omega (arith, lt, all, c.cols-col-end.ensures)))

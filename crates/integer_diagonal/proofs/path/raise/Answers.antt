@@ -14,7 +14,7 @@ sub-rise-requires g c =
     let k = c.loop-place.place in
     let lt : k < length c.args.queue.now = c.loop-place-test.true in
     let read = get_or_read c.args.depths.now k c.index-depths-place.result (omega (arith, lt, c.requires.lengths)) c.index-depths-place.is 0 in
-    let near = c.requires.depths k lt in
+    let near = c.requires.near k lt in
     let fits = c.requires.duals_fit 0 in
     (omega (arith, read, near), omega (arith, fits))
 
@@ -52,7 +52,7 @@ loop-place-preserved g c =
     let k = c.loop-place.place in
     let col : ℕ = (at c.args.queue.now k).0 in
     let lt : k < length c.args.queue.now = c.loop-place-test.true in
-    let near = c.requires.depths k lt in
+    let near = c.requires.near k lt in
     let inside : col < length c.loop-place.assignment.duals.items = (let range = c.requires.in_range k lt in let long = i.duals.long in omega (arith, range, long)) in
     let read = get_or_read c.loop-place.assignment.duals.items col c.index_mut.result.now inside c.index_mut.ensures.value 0 in
     let rise : ℕ = c.sub-rise.result in

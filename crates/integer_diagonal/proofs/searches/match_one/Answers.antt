@@ -10,11 +10,11 @@ pub returns-else-not-found-clause-mated : goal.returns-else-not-found-clause-mat
 returns-else-not-found-clause-mated g c =
     let new = c.extend.new in
     let e = c.in_ok-found.ensures in
-    mated_next c.args.weights.now c.args.pattern.now c.args.assignment.now new.assignment c.args.paths.now new.self c.args.col c.requires.mated e.assignment e.covered (e.found (search rules))
+    mated_next c.args.weights.now c.args.assignment.now new.assignment c.args.paths.now new.self c.args.col c.requires.mated e.extends.assignment e.extends.covered (e.found (search rules))
 
 pub returns-else-is_none-clause-mated : goal.returns-else-is_none-clause-mated
 returns-else-is_none-clause-mated g c =
     let n = c.args.col in
     let a = c.args.assignment.now in
     let (r, pair) = some_holds c.row_of.result (λ r. Among {X = Place} (r, n) a.matching.pairs) (c.is_none.ensures ∙ ap not c.if-is_none.false) c.row_of.ensures.found in
-    mated_same c.args.weights.now c.args.pattern.now a c.args.paths.now n c.requires.mated (col_among r n a.matching.pairs pair)
+    mated_same c.args.weights.now a c.args.paths.now n c.requires.mated (col_among r n a.matching.pairs pair)

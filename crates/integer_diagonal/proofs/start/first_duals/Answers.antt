@@ -19,5 +19,5 @@ loop-col-preserved g c =
 
 pub returns : goal.returns
 returns g c =
-    let all : c.loop-col.col ≡ cols c.args.pattern.now = omega (arith, c.loop-col-test.false, c.loop-col.auto.col-end) in
+    let all : c.loop-col.col ≡ cols c.args.weights.now.matrix = omega (arith, c.loop-col-test.false, c.loop-col.auto.col-end) in
     subst (λ k. AreFirstDuals c.args.weights.now c.args.top k c.loop-col.duals.items) all c.loop-col.invariant

@@ -1,5 +1,4 @@
-use Rattle.std.proofs.Common.{◌≤◌, ap, arith}
-use Rattle.bip_defs.specs.Matrix.{cols}
+use Rattle.std.proofs.Common.{◌≤◌, arith}
 use Rattle.integer_diagonal.proofs.StartLemmas.{most_all, most_next}
 use Rattle.integer_diagonal.proofs.start.greatest_of_all.Goals.{then-here-most, else-here-most}
 use Rattle.integer_diagonal.proofs.start.greatest_of_all.Goals as goal
@@ -22,5 +21,4 @@ loop-col-preserved c =
 pub returns : goal.returns
 returns c =
     let all = c.loop-col-test.false in
-    let same = ap cols c.requires in
-    most_all c.args.weights.now c.loop-col.col c.loop-col.most c.loop-col.invariant (omega (arith, all, same))
+    most_all c.args.weights.now c.loop-col.col c.loop-col.most c.loop-col.invariant (omega (arith, all))

@@ -6,7 +6,7 @@ use Rattle.integer_diagonal.specs.Duals.{cost}
 use Rattle.integer_diagonal.proofs.start.raise_rows.Goals as goal
 
 pub overflow_sub-top : goal.overflow_sub-top
-overflow_sub-top g c = weight_small c.args.weights.now c.args.top c.args.pattern.now c.args.col c.loop-k.k c.rows_of-rows.result.now c.weights_of-weights.result.now c.requires.of c.rows_of-rows.ensures.column c.requires.small c.weights_of-weights.ensures.length c.weights_of-weights.ensures.each c.loop-k-test.true
+overflow_sub-top g c = weight_small c.args.weights.now c.args.top c.args.weights.now.matrix c.args.col c.loop-k.k c.rows_of-rows.result.now c.weights_of-weights.result.now refl c.rows_of-rows.ensures.column c.requires.small c.weights_of-weights.ensures.length c.weights_of-weights.ensures.each c.loop-k-test.true
 
 pub sub-requires : goal.sub-requires
 sub-requires g c =
@@ -19,7 +19,7 @@ sub-requires g c =
 pub raise_row-requires : goal.raise_row-requires
 raise_row-requires g c =
     let r = c.index-rows-k.result in
-    let entry = row_entry c.args.pattern.now c.args.pattern.now c.args.col c.rows_of-rows.result.now c.loop-k.k r r refl c.rows_of-rows.ensures.rows c.loop-k-test.true c.index-rows-k.is refl in
+    let entry = row_entry c.args.weights.now.matrix c.args.weights.now.matrix c.args.col c.rows_of-rows.result.now c.loop-k.k r r refl c.rows_of-rows.ensures.rows c.loop-k-test.true c.index-rows-k.is refl in
     omega (arith, entry.0, c.requires.rows, c.loop-k.invariant.long)
 
 pub loop-k-preserved : goal.loop-k-preserved
@@ -31,9 +31,9 @@ loop-k-preserved g c =
     let k = c.loop-k.k in
     let r = c.index-rows-k.result in
     let o = c.index-duals-col.result in
-    let entry = row_entry c.args.pattern.now w.matrix n rows k r r c.requires.of c.rows_of-rows.ensures.rows c.loop-k-test.true c.index-rows-k.is refl in
+    let entry = row_entry c.args.weights.now.matrix w.matrix n rows k r r refl c.rows_of-rows.ensures.rows c.loop-k-test.true c.index-rows-k.is refl in
     let read : r ≡ slice_index rows k = get_or_read rows k r c.loop-k-test.true c.index-rows-k.is 0 in
-    let costs = cost_here w c.args.top c.args.pattern.now n k r rows weights c.requires.of c.rows_of-rows.ensures.column c.weights_of-weights.ensures.length c.weights_of-weights.ensures.each c.loop-k-test.true read in
+    let costs = cost_here w c.args.top c.args.weights.now.matrix n k r rows weights refl c.rows_of-rows.ensures.column c.weights_of-weights.ensures.length c.weights_of-weights.ensures.each c.loop-k-test.true read in
     let dual = read_at c.args.duals.now n c.col.inside.0 o c.col.view_is (omega (arith, c.requires.col, c.requires.duals.duals_are)) c.index-duals-col.is in
     let covers = c.requires.duals.covers r n c.requires.col entry in
     let small : o ≤ c.args.top + cost c.args.top w r n = omega (arith, dual, covers) in
@@ -44,4 +44,4 @@ loop-k-preserved g c =
 pub returns-clause-covers : goal.returns-clause-covers
 returns-clause-covers g c =
     let dual = read_at c.args.duals.now c.args.col c.col.inside.0 c.index-duals-col.result c.col.view_is (omega (arith, c.requires.col, c.requires.duals.duals_are)) c.index-duals-col.is in
-    raising_all c.args.weights.now c.args.top c.args.pattern.now c.args.col c.loop-k.k c.index-duals-col.result c.rows_of-rows.result.now c.args.prices.now c.loop-k.prices c.args.duals.now c.loop-k.invariant dual c.rows_of-rows.ensures.column (let all = c.loop-k-test.false in omega (arith, all))
+    raising_all c.args.weights.now c.args.top c.args.weights.now.matrix c.args.col c.loop-k.k c.index-duals-col.result c.rows_of-rows.result.now c.args.prices.now c.loop-k.prices c.args.duals.now c.loop-k.invariant dual c.rows_of-rows.ensures.column (let all = c.loop-k-test.false in omega (arith, all))

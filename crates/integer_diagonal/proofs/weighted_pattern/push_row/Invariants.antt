@@ -5,7 +5,7 @@ use Rattle.integer_diagonal.proofs.weighted_pattern.push_row.Given as goal
 
 abbrev pub invariant-loop-k : goal.invariant-loop-k
 invariant-loop-k l = record {
-  passed : length l.passed.items ≡ cols l.pattern;
+  passed : length l.passed.items ≡ cols l.weights.matrix;
   pushed : l.row_weights.items
       ≡ l.fn.row_weights.items ++ map (λ c. weight_at l.weights l.row c) (take l.k l.cols);
 }

@@ -1,8 +1,8 @@
 use Rattle.std.proofs.Common.{refl, arith}
 use Rattle.integer_diagonal.proofs.ScanLemmas.{row_entry}
-use Rattle.integer_diagonal.proofs.blocks.Blocks.greatest.Goals as goal
+use Rattle.integer_diagonal.proofs.blocks.PriceBlocks.greatest.Goals as goal
 
 pub index-requires : goal.index-requires
 index-requires c =
-    let entry = row_entry c.args.pattern.now c.args.pattern.now c.args.col c.rows_of-rows.result.now c.loop-k.k c.index-rows-k.result c.index-rows-k.result refl c.rows_of-rows.ensures.rows c.loop-k-test.true c.index-rows-k.is refl in
+    let entry = row_entry c.args.weights.now.matrix c.args.weights.now.matrix c.args.col c.rows_of-rows.result.now c.loop-k.k c.index-rows-k.result c.index-rows-k.result refl c.rows_of-rows.ensures.rows c.loop-k-test.true c.index-rows-k.is refl in
     omega (arith, entry.0, c.requires.blocks.of_rows, c.args.self.now.of_row.ok.0, c.number.ensures)

@@ -1,7 +1,6 @@
-use Rattle.std.proofs.Common.{◌∙◌, ℕ, List, length, subst, ap, arith}
+use Rattle.std.proofs.Common.{◌∙◌, ℕ, List, length, subst, ap, arith, refl}
 use Rattle.std.proofs.lemmas.List.{length-replicate}
 use Rattle.bip_defs.specs.Lists.{Among}
-use Rattle.bip_defs.specs.Matrix.{Matrix}
 use Rattle.integer_diagonal.proofs.PhaseLemmas.{square_pairing}
 use Rattle.integer_diagonal.specs.Duals.{priced}
 use Rattle.integer_diagonal.proofs.distances.Distances.spread.Goals.{then-is_none+in_ok-scan, else-is_none}
@@ -18,11 +17,10 @@ loop-near-init g c = record {
 
 pub mate-requires-clause-vertex : goal.mate-requires-clause-vertex
 mate-requires-clause-vertex g c =
-    let rows = ap (λ (z : Matrix). z.rows) c.args.graph.now.of in
-    omega (arith, rows, c.loop-near-test.true, c.rows-near-end.ensures, c.requires.assignment.rows_are)
+    omega (arith, c.loop-near-test.true, c.rows-near-end.ensures, c.requires.assignment.rows_are)
 
 pub mate-requires-clause-square : goal.mate-requires-clause-square
-mate-requires-clause-square g c = square_pairing (priced c.args.graph.now.weights.now c.args.assignment.now) c.args.assignment.now.matching c.args.graph.now.pattern.now c.requires.assignment c.args.graph.now.of c.requires.square
+mate-requires-clause-square g c = square_pairing (priced c.args.graph.now.weights.now c.args.assignment.now) c.args.assignment.now.matching c.args.graph.now.weights.now.matrix c.requires.assignment refl c.requires.square
 
 pub loop-near-preserved : goal.loop-near-preserved
 loop-near-preserved g c =

@@ -10,4 +10,4 @@ invariant-loop-closest g l = record {
 }
 
 abbrev pub decreases-loop-closest : goal.decreases-loop-closest
-decreases-loop-closest g l = cols l.pattern + 1 - length l.self.queue.items
+decreases-loop-closest g l = cols l.weights.matrix + 1 - length l.self.queue.items

@@ -1,5 +1,5 @@
 use Rattle.std.proofs.Common.{arith}
-use Rattle.integer_diagonal.proofs.side.Side.mate.Goals as goal
+use Rattle.integer_diagonal.proofs.side.VertexSide.mate.Goals as goal
 
 pub returns-in-Some : goal.returns-in-Some
 returns-in-Some c = let lt = c.is_matching.ensures.rows_within _ _ c.in-Some.ensures.found in omega (arith, lt, c.row.view_is)

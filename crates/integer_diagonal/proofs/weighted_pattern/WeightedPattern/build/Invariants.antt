@@ -6,7 +6,7 @@ use Rattle.integer_diagonal.proofs.weighted_pattern.WeightedPattern.build.Given 
 
 abbrev pub invariant-loop-row : goal.invariant-loop-row
 invariant-loop-row l = record {
-  passed : length l.passed.items ≡ cols l.pattern;
+  passed : length l.passed.items ≡ cols l.weights.matrix;
   rows : AreRowWeights l.weights l.row l.row_starts.items l.row_weights.items;
   last : slice_index l.row_starts.items l.row ≡ length l.row_weights.items;
 }

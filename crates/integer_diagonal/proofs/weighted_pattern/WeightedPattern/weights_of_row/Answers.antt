@@ -15,7 +15,7 @@ returns c =
     let starts = k.row_starts.items in
     let r = c.row.inside.0 in
     let is : r ≡ c.args.row = c.row.view_is in
-    let lt : r < k.pattern.now.rows = omega (arith, c.requires, is) in
+    let lt : r < k.weights.now.matrix.rows = omega (arith, c.requires, is) in
     let from = get_or_read starts r c.index.result.now (omega (arith, lt, k.by_rows.long)) c.index.ensures 0 in
     let to = get_or_read starts (r + 1) c.index-2.result.now (omega (arith, lt, k.by_rows.long)) c.index-2.ensures 0 in
     ap (λ (z : List ℕ). take (c.index-2.result.now - c.index.result.now) (drop c.index.result.now z)) c.as_slice.ensures.value
