@@ -5,8 +5,8 @@ use Rattle.btf_words.specs.declared.jobs.Engine.{Engine}
 use Rattle.btf_words.specs.declared.jobs.Engine.TheVariants as engines
 use Rattle.btf_words.specs.declared.jobs.EngineChoice.{EngineChoice}
 use Rattle.btf_words.specs.declared.jobs.EngineChoice.TheVariants.{Plain, Mc21, Pf, Graft}
-use Rattle.btf_words.specs.declared.jobs.Pairs.{Pairs}
-use Rattle.btf_words.specs.declared.jobs.Pairs.TheVariants.{None, Any, Least}
+use Rattle.btf_words.specs.declared.jobs.ListedPairs.{ListedPairs}
+use Rattle.btf_words.specs.declared.jobs.ListedPairs.TheVariants.{None, Any, Least}
 use Rattle.btf_words.specs.declared.jobs.Version.{Version}
 use Rattle.btf_words.specs.declared.jobs.Version.TheVariants.{One, Two}
 
@@ -27,12 +27,12 @@ abbrev pub number_of : Version → ℕ
 number_of One = 1
 number_of Two = 2
 
-abbrev pub are_listed : Pairs → Bool
+abbrev pub are_listed : ListedPairs → Bool
 are_listed None = false
 are_listed Any = true
 are_listed Least = true
 
-abbrev pub are_least : Pairs → Bool
+abbrev pub are_least : ListedPairs → Bool
 are_least None = false
 are_least Any = false
 are_least Least = true

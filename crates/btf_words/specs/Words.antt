@@ -12,9 +12,9 @@ use Rattle.btf_words.specs.Table.{Names, btf, btf_over, latest_version}
 use Rattle.btf_words.specs.declared.jobs.Engine.{Engine}
 use Rattle.btf_words.specs.declared.jobs.Engine.TheVariants.{Plain, Mc21, Pf, Graft}
 use Rattle.btf_words.specs.declared.jobs.Job.{Job}
-use Rattle.btf_words.specs.declared.jobs.Pairs.{Pairs}
-use Rattle.btf_words.specs.declared.jobs.Pairs.TheVariants.{Any, Least}
-use Rattle.btf_words.specs.declared.jobs.Pairs.TheVariants as pairs
+use Rattle.btf_words.specs.declared.jobs.ListedPairs.{ListedPairs}
+use Rattle.btf_words.specs.declared.jobs.ListedPairs.TheVariants.{Any, Least}
+use Rattle.btf_words.specs.declared.jobs.ListedPairs.TheVariants as pairs
 use Rattle.btf_words.specs.declared.jobs.ReportOptions.{ReportOptions}
 use Rattle.btf_words.specs.declared.jobs.Version.{Version}
 use Rattle.btf_words.specs.declared.jobs.Version.TheVariants.{One, Two}
@@ -67,7 +67,7 @@ abbrev pub version_in : List Row → Version
 version_in rows = if number_in 1 latest_version (codes "report") rows == 1 then One else Two
 
 -- the pairs of the report: with `--least` the least ones, whether `--pairs` is given or not
-abbrev pub pairs_in : List Row → Pairs
+abbrev pub pairs_in : List Row → ListedPairs
 pairs_in rows = if is_given (codes "least") rows then Least
     else (if is_given (codes "pairs") rows then Any else pairs.None)
 

@@ -61,7 +61,7 @@ pub enum Version {
 
 /// Which pairs a report lists.
 #[derive(Clone, Copy, Debug, PartialEq, Eq)]
-pub enum Pairs {
+pub enum ListedPairs {
     /// It lists none.
     None,
     /// Those of some maximum matching.
@@ -70,14 +70,14 @@ pub enum Pairs {
     Least,
 }
 
-impl Pairs {
+impl ListedPairs {
     /// Whether pairs are listed.
     pub fn are_listed(self) -> bool
         ensures { result ≡ are_listed self }
     {
         match self {
-            Pairs::None => false,
-            Pairs::Any | Pairs::Least => true,
+            ListedPairs::None => false,
+            ListedPairs::Any | ListedPairs::Least => true,
         }
     }
 
@@ -86,8 +86,8 @@ impl Pairs {
         ensures { result ≡ are_least self }
     {
         match self {
-            Pairs::None | Pairs::Any => false,
-            Pairs::Least => true,
+            ListedPairs::None | ListedPairs::Any => false,
+            ListedPairs::Least => true,
         }
     }
 }
@@ -100,7 +100,7 @@ pub struct ReportOptions {
     /// Whether the two orders are written.
     pub order: bool,
     /// Which pairs are written.
-    pub pairs: Pairs,
+    pub pairs: ListedPairs,
 }
 
 /// What the program is asked to do. With `drop_zeros` a place of an integer file whose values add

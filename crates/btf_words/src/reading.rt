@@ -10,7 +10,7 @@ ghost use Rattle.btf_words.specs.declared.jobs.Job.{Job as JobValue};
 
 use crate::commands::command_line;
 use crate::options::LATEST_VERSION;
-use crate::{Engine, EngineChoice, Job, Pairs, ReportOptions, Version, WordsError, Workers};
+use crate::{Engine, EngineChoice, Job, ListedPairs, ReportOptions, Version, WordsError, Workers};
 use clap::ArgMatches;
 use clap::error::ErrorKind;
 use sp_ids::{MAX_LOAD_SEED, MAX_LOAD_SIZE, MAX_WORKERS};
@@ -137,15 +137,15 @@ fn version_of(options: &ArgMatches<'_>) -> Version
     }
 }
 
-fn pairs_of(options: &ArgMatches<'_>) -> Pairs
+fn pairs_of(options: &ArgMatches<'_>) -> ListedPairs
     ensures { result ≡ pairs_in (rows_of (found_of options.now)) }
 {
     if flag_of(options, "least") {
-        Pairs::Least
+        ListedPairs::Least
     } else if flag_of(options, "pairs") {
-        Pairs::Any
+        ListedPairs::Any
     } else {
-        Pairs::None
+        ListedPairs::None
     }
 }
 
