@@ -1,18 +1,15 @@
 //! A matrix under edits, and a maximum matching of it.
 
-ghost use Rattle.std.specs.Prelude.{◌≡◌, ◌↔◌, ◌⊎◌, ◌+◌, ◌<◌, ◌≤◌, ℕ, List, length, IfOk, IsTrue, OnErr, OnOk, is_ok};
+ghost use Rattle.std.specs.Prelude.{◌≡◌, ◌↔◌, ◌+◌, ◌<◌, ◌≤◌, length, IfOk, IsTrue, OnErr, OnOk, is_ok};
 ghost use Rattle.bip_defs.specs.ConnectedComponents.{AreConnectedComponents};
 ghost use Rattle.bip_defs.specs.EditedMatrix.{with_place, without_place};
-ghost use Rattle.bip_defs.specs.Lists.{Among, IsMarked};
-ghost use Rattle.bip_defs.specs.Matching.{IsRank, cols_of, rows_of};
-ghost use Rattle.bip_defs.specs.Matrix.{IsEntry, Place, cols, entry_count, transpose};
-ghost use Rattle.bip_defs.specs.Paths.{IsParted};
+ghost use Rattle.bip_defs.specs.Lists.{Among};
+ghost use Rattle.bip_defs.specs.Matching.{IsRank};
+ghost use Rattle.bip_defs.specs.Matrix.{IsEntry, cols, entry_count};
 ghost use Rattle.bip_graph.specs.Decompositions.{Decomposes, components_of};
-ghost use Rattle.bip_graph.specs.Matching.{IsMatchingOf, IsMaximumOf};
-ghost use Rattle.edit_session.specs.Sessions.{IsSaturating, IsKept, IsPaired, MatchedMatrix};
-ghost use Rattle.vertex_cover.specs.Back.{IsSearchedTo};
-ghost use Rattle.vertex_cover.specs.Covers.{IsCover, IsCovered, IsSearchedFrom};
-ghost use Rattle.vertex_cover.specs.Over.{IsSearchedOver};
+ghost use Rattle.bip_graph.specs.Matching.{IsMaximumOf};
+ghost use Rattle.edit_session.specs.Sessions.{ClearSearches, IsKept, IsNewEntry, IsSettled, MatchedMatrix, NeedsNoSearch, SearchesFor, SetSearches};
+ghost use Rattle.vertex_cover.specs.Covers.{IsCover};
 ghost use Rattle.sp_ids.specs.Limits.{max_entries};
 
 use crate::columns::Columns;
@@ -187,40 +184,9 @@ impl Session {
         ensures unchanged { OnErr result (self.new ≡ self.old) }
         ensures steps { steps.new ≤ steps.old
             + (cols self.old.matrix + entry_count (with_place self.old.matrix (row, col))) }
-        ensures no_step { IsEntry self.old.matrix row col → steps.new ≡ steps.old }
-        ensures no_search { IsSaturating self.old.matrix self.old.matching.pairs
-            ⊎ IsCovered self.old.matching.pairs self.old.marks (row, col)
-            → steps.new ≡ steps.old }
-        ensures searched { OnOk result (¬ IsEntry self.old.matrix row col
-            → ¬ IsSaturating self.old.matrix self.old.matching.pairs
-            → ¬ IsCovered self.old.matching.pairs self.old.marks (row, col)
-            → Among col (cols_of self.old.matching.pairs)
-            → Among row (rows_of self.old.matching.pairs)
-            → (mate : ℕ) × Among (row, mate) self.old.matching.pairs
-            × IsSearchedOver (row, mate) self.new.matrix self.old.matching.pairs self.old.marks
-            self.new.matching.pairs self.new.marks steps.old steps.new) }
-        ensures searched_to { OnOk result (¬ IsEntry self.old.matrix row col
-            → ¬ IsSaturating self.old.matrix self.old.matching.pairs
-            → ¬ IsCovered self.old.matching.pairs self.old.marks (row, col)
-            → Among col (cols_of self.old.matching.pairs)
-            → ¬ Among row (rows_of self.old.matching.pairs)
-            → IsSearchedTo row self.new.matrix (transpose self.new.matrix)
-            self.old.matching.pairs self.old.marks
-            self.new.matching.pairs self.new.marks steps.old steps.new) }
-        ensures searched_from { OnOk result (¬ IsEntry self.old.matrix row col
-            → ¬ IsSaturating self.old.matrix self.old.matching.pairs
-            → ¬ IsCovered self.old.matching.pairs self.old.marks (row, col)
-            → ¬ Among col (cols_of self.old.matching.pairs)
-            → Among row (rows_of self.old.matching.pairs)
-            → IsSearchedFrom col self.new.matrix self.old.matching.pairs self.old.marks
-            self.new.matching.pairs self.new.marks steps.old steps.new) }
-        ensures paired { OnOk result (¬ IsEntry self.old.matrix row col
-            → ¬ IsSaturating self.old.matrix self.old.matching.pairs
-            → ¬ IsCovered self.old.matching.pairs self.old.marks (row, col)
-            → ¬ Among col (cols_of self.old.matching.pairs)
-            → ¬ Among row (rows_of self.old.matching.pairs)
-            → IsPaired (row, col) self.old.matching.pairs self.new.matching.pairs
-            × (steps.new ≡ steps.old)) }
+        ensures no_search { NeedsNoSearch (row, col) self.old → steps.new ≡ steps.old }
+        ensures searched { OnOk result (¬ NeedsNoSearch (row, col) self.old
+            → SetSearches (row, col) self.old self.new steps.old steps.new) }
     {
         self.columns.is_pattern();
         self.rows.is_pattern();
@@ -262,16 +228,8 @@ impl Session {
         ensures steps { steps.new
             ≤ steps.old + (cols self.old.matrix + entry_count self.old.matrix) }
         ensures no_step { ¬ Among (row, col) self.old.matching.pairs → steps.new ≡ steps.old }
-        ensures searched_to { OnOk result (Among (row, col) self.old.matching.pairs
-            → IsMarked self.old.marks col
-            → (rest : List Place) × IsParted (row, col) self.old.matching.pairs rest
-            × IsSearchedTo row self.new.matrix (transpose self.new.matrix) rest self.old.marks
-            self.new.matching.pairs self.new.marks steps.old steps.new) }
-        ensures searched_from { OnOk result (Among (row, col) self.old.matching.pairs
-            → ¬ IsMarked self.old.marks col
-            → (rest : List Place) × IsParted (row, col) self.old.matching.pairs rest
-            × IsSearchedFrom col self.new.matrix rest self.old.marks
-            self.new.matching.pairs self.new.marks steps.old steps.new) }
+        ensures searched { OnOk result
+            (ClearSearches (row, col) self.old self.new steps.old steps.new) }
     {
         if self.columns.has(row, col) {
             return self.clear_entry(row, col, steps);
@@ -295,16 +253,8 @@ impl Session {
         ensures steps { steps.new
             ≤ steps.old + (cols self.old.matrix + entry_count self.old.matrix) }
         ensures no_step { ¬ Among (row, col) self.old.matching.pairs → steps.new ≡ steps.old }
-        ensures searched_to { OnOk result (Among (row, col) self.old.matching.pairs
-            → IsMarked self.old.marks col
-            → (rest : List Place) × IsParted (row, col) self.old.matching.pairs rest
-            × IsSearchedTo row self.new.matrix (transpose self.new.matrix) rest self.old.marks
-            self.new.matching.pairs self.new.marks steps.old steps.new) }
-        ensures searched_from { OnOk result (Among (row, col) self.old.matching.pairs
-            → ¬ IsMarked self.old.marks col
-            → (rest : List Place) × IsParted (row, col) self.old.matching.pairs rest
-            × IsSearchedFrom col self.new.matrix rest self.old.marks
-            self.new.matching.pairs self.new.marks steps.old steps.new) }
+        ensures searched { OnOk result
+            (ClearSearches (row, col) self.old self.new steps.old steps.new) }
     {
         cover_shows_maximum();
         cover_stands();
@@ -357,36 +307,15 @@ fn match_entry<L: Ledger>(
     col: Col,
     steps: &mut Steps<L>,
 )
-    requires entry { IsEntry columns.now.matrix row col }
-    requires matching { IsMatchingOf columns.now.matrix matching.old }
-    requires rows { rows.now.matrix ≡ transpose columns.now.matrix }
-    requires cover { IsCover (without_place columns.now.matrix (row, col))
-        matching.old.pairs cover.old }
+    requires { IsNewEntry (row, col) columns.now.matrix rows.now.matrix matching.old cover.old }
     ensures kept { IsKept columns.now.matrix rows.now.matrix matching.new cover.new }
     ensures steps { steps.new
         ≤ steps.old + (cols columns.now.matrix + entry_count columns.now.matrix) }
-    ensures no_search { IsSaturating columns.now.matrix matching.old.pairs
-        ⊎ IsCovered matching.old.pairs cover.old (row, col) → steps.new ≡ steps.old }
-    ensures searched { ¬ IsSaturating columns.now.matrix matching.old.pairs
-        → ¬ IsCovered matching.old.pairs cover.old (row, col)
-        → Among col (cols_of matching.old.pairs) → Among row (rows_of matching.old.pairs)
-        → (mate : ℕ) × Among (row, mate) matching.old.pairs
-        × IsSearchedOver (row, mate) columns.now.matrix matching.old.pairs cover.old
+    ensures no_search { IsSettled (row, col) columns.now.matrix matching.old.pairs cover.old
+        → steps.new ≡ steps.old }
+    ensures searched { ¬ IsSettled (row, col) columns.now.matrix matching.old.pairs cover.old
+        → SearchesFor (row, col) columns.now.matrix matching.old.pairs cover.old
         matching.new.pairs cover.new steps.old steps.new }
-    ensures searched_to { ¬ IsSaturating columns.now.matrix matching.old.pairs
-        → ¬ IsCovered matching.old.pairs cover.old (row, col)
-        → Among col (cols_of matching.old.pairs) → ¬ Among row (rows_of matching.old.pairs)
-        → IsSearchedTo row columns.now.matrix (transpose columns.now.matrix)
-        matching.old.pairs cover.old matching.new.pairs cover.new steps.old steps.new }
-    ensures searched_from { ¬ IsSaturating columns.now.matrix matching.old.pairs
-        → ¬ IsCovered matching.old.pairs cover.old (row, col)
-        → ¬ Among col (cols_of matching.old.pairs) → Among row (rows_of matching.old.pairs)
-        → IsSearchedFrom col columns.now.matrix matching.old.pairs cover.old
-        matching.new.pairs cover.new steps.old steps.new }
-    ensures paired { ¬ IsSaturating columns.now.matrix matching.old.pairs
-        → ¬ IsCovered matching.old.pairs cover.old (row, col)
-        → ¬ Among col (cols_of matching.old.pairs) → ¬ Among row (rows_of matching.old.pairs)
-        → IsPaired (row, col) matching.old.pairs matching.new.pairs × (steps.new ≡ steps.old) }
 {
     cover_shows_maximum();
     cover_stands();

@@ -1,11 +1,12 @@
 use Rattle.std.proofs.Common.{◌∙◌, ⊎_elim, ap, inl, inr, refl, subst, sym, true≢false}
 use Rattle.bip_defs.specs.Lists.{Among}
+use Rattle.bip_defs.specs.Matching.{cols_of, rows_of}
 use Rattle.bip_defs.specs.Matrix.{IsTransposeOf, Matrix, Place, entry_count}
 use Rattle.bip_defs.proofs.Sets.{col_among, row_among}
 use Rattle.bip_defs.proofs.Transposed.{transpose_is}
 use Rattle.bip_defs.proofs.Results.{some_found}
 use Rattle.vertex_cover.specs.Back.{IsSearchedTo}
-use Rattle.edit_session.proofs.SessionLemmas.{had_kept, more_columns, over_kept, paired_kept, searched_kept, set_but}
+use Rattle.edit_session.proofs.SessionLemmas.{had_kept, more_columns, none_found, over_kept, paired_kept, searched_kept, set_but}
 use Rattle.edit_session.proofs.TransposeLemmas.{transpose_count}
 use Rattle.edit_session.proofs.session.match_entry.Goals as goal
 
@@ -27,32 +28,14 @@ augment_to-requires-clause-cover g c = c.cover_stands.ensures.but_row c.args.col
 pub returns-then-row_is_free-clause-kept : goal.returns-then-row_is_free-clause-kept
 returns-then-row_is_free-clause-kept g c = searched_kept c.args.columns.now.matrix c.args.rows.now.matrix (c.args.row, c.args.col) c.args.matching.now c.augment_to.new.matching c.args.cover.now c.augment_to.new.self c.cover_shows_maximum.ensures c.cover_stands.ensures.longer c.requires.rows c.requires.cover c.augment_to.ensures.decided.matching c.augment_to.ensures.decided.cover
 
-pub returns-then-row_is_free-clause-searched_to : goal.returns-then-row_is_free-clause-searched_to
-returns-then-row_is_free-clause-searched_to g c partial other mated out = subst (λ (b : Matrix). IsSearchedTo c.args.row c.args.columns.now.matrix b c.args.matching.now.pairs c.args.cover.now c.augment_to.new.matching.pairs c.augment_to.new.self c.args.steps.now c.augment_to.new.steps) c.requires.rows c.augment_to.ensures.searched
-
-pub returns-then-row_is_free-clause-paired : goal.returns-then-row_is_free-clause-paired
-returns-then-row_is_free-clause-paired g c partial other free = let (s, pair) = some_found (λ r. Among {X = Place} (r, c.args.col) c.args.matching.now.pairs) c.row_of.result (sym c.is_some.ensures ∙ c.if-is_some.true) c.row_of.ensures.found in absurd (free (col_among s c.args.col c.args.matching.now.pairs pair))
-
 pub returns-else-row_is_free-clause-kept : goal.returns-else-row_is_free-clause-kept
 returns-else-row_is_free-clause-kept g c = over_kept c.args.columns.now.matrix c.args.rows.now.matrix (c.args.row, c.args.col) c.args.matching.now c.augment_over.new.matching c.args.cover.now c.augment_over.new.self c.cover_shows_maximum.ensures c.cover_stands.ensures.longer c.requires.rows c.requires.cover c.augment_over.ensures.decided.matching c.augment_over.ensures.decided.cover
-
-pub returns-else-row_is_free-clause-searched_to : goal.returns-else-row_is_free-clause-searched_to
-returns-else-row_is_free-clause-searched_to g c partial other mated out = let (d, pair) = some_found (λ x. Among {X = Place} (c.args.row, x) c.args.matching.now.pairs) c.col_of.result c.if-row_is_free.ensures c.col_of.ensures.found in absurd (out (row_among c.args.row d c.args.matching.now.pairs pair))
-
-pub returns-else-row_is_free-clause-searched_from : goal.returns-else-row_is_free-clause-searched_from
-returns-else-row_is_free-clause-searched_from g c partial other free = let (s, pair) = some_found (λ r. Among {X = Place} (r, c.args.col) c.args.matching.now.pairs) c.row_of.result (sym c.is_some.ensures ∙ c.if-is_some.true) c.row_of.ensures.found in absurd (free (col_among s c.args.col c.args.matching.now.pairs pair))
-
-pub returns-else-row_is_free-clause-paired : goal.returns-else-row_is_free-clause-paired
-returns-else-row_is_free-clause-paired g c partial other free = let (s, pair) = some_found (λ r. Among {X = Place} (r, c.args.col) c.args.matching.now.pairs) c.row_of.result (sym c.is_some.ensures ∙ c.if-is_some.true) c.row_of.ensures.found in absurd (free (col_among s c.args.col c.args.matching.now.pairs pair))
 
 pub augment_from-requires-clause-cover : goal.augment_from-requires-clause-cover
 augment_from-requires-clause-cover g c = set_but c.args.columns.now.matrix (c.args.row, c.args.col) c.args.matching.now.pairs c.args.cover.now c.requires.cover
 
 pub returns-then-not-row_is_free-clause-kept : goal.returns-then-not-row_is_free-clause-kept
 returns-then-not-row_is_free-clause-kept g c = searched_kept c.args.columns.now.matrix c.args.rows.now.matrix (c.args.row, c.args.col) c.args.matching.now c.augment_from.new.matching c.args.cover.now c.augment_from.new.self c.cover_shows_maximum.ensures c.cover_stands.ensures.longer c.requires.rows c.requires.cover c.augment_from.ensures.decided.matching c.augment_from.ensures.decided.cover
-
-pub returns-then-not-row_is_free-clause-paired : goal.returns-then-not-row_is_free-clause-paired
-returns-then-not-row_is_free-clause-paired g c partial other free out = let (d, pair) = some_found (λ x. Among {X = Place} (c.args.row, x) c.args.matching.now.pairs) c.col_of.result c.if-not-row_is_free.ensures c.col_of.ensures.found in absurd (out (row_among c.args.row d c.args.matching.now.pairs pair))
 
 pub returns-clause-kept : goal.returns-clause-kept
 returns-clause-kept g c = paired_kept c.args.columns.now.matrix c.args.rows.now.matrix (c.args.row, c.args.col) c.args.matching.now c.pair.new.self c.args.cover.now c.cover_shows_maximum.ensures c.requires.matching c.requires.entry c.requires.rows c.requires.cover c.pair.ensures.added c.pair.ensures.sizes c.is_matching.ensures.rows_differ c.is_matching.ensures.cols_rise
@@ -66,47 +49,11 @@ augment_over-requires-clause-uncovered g c h = true≢false (sym (c.has.ensures.
 pub returns-then-has-clause-no_search : goal.returns-then-has-clause-no_search
 returns-then-has-clause-no_search g c = λ h. refl
 
-pub returns-then-has-clause-searched : goal.returns-then-has-clause-searched
-returns-then-has-clause-searched g c = λ partial other mated on. absurd (other (c.has.ensures.0 c.if-has.true))
-
-pub returns-then-has-clause-searched_to : goal.returns-then-has-clause-searched_to
-returns-then-has-clause-searched_to g c = λ partial other mated out. absurd (other (c.has.ensures.0 c.if-has.true))
-
-pub returns-then-has-clause-searched_from : goal.returns-then-has-clause-searched_from
-returns-then-has-clause-searched_from g c = λ partial other free on. absurd (other (c.has.ensures.0 c.if-has.true))
-
-pub returns-then-has-clause-paired : goal.returns-then-has-clause-paired
-returns-then-has-clause-paired g c = λ partial other free out. absurd (other (c.has.ensures.0 c.if-has.true))
-
 pub returns-then-size-rows-clause-no_search : goal.returns-then-size-rows-clause-no_search
 returns-then-size-rows-clause-no_search g c = λ h. refl
 
-pub returns-then-size-rows-clause-searched : goal.returns-then-size-rows-clause-searched
-returns-then-size-rows-clause-searched g c = λ partial other mated on. absurd (partial (inl (sym c.size.ensures.size ∙ c.if-size-rows.true ∙ c.rows.ensures)))
-
-pub returns-then-size-rows-clause-searched_to : goal.returns-then-size-rows-clause-searched_to
-returns-then-size-rows-clause-searched_to g c = λ partial other mated out. absurd (partial (inl (sym c.size.ensures.size ∙ c.if-size-rows.true ∙ c.rows.ensures)))
-
-pub returns-then-size-rows-clause-searched_from : goal.returns-then-size-rows-clause-searched_from
-returns-then-size-rows-clause-searched_from g c = λ partial other free on. absurd (partial (inl (sym c.size.ensures.size ∙ c.if-size-rows.true ∙ c.rows.ensures)))
-
-pub returns-then-size-rows-clause-paired : goal.returns-then-size-rows-clause-paired
-returns-then-size-rows-clause-paired g c = λ partial other free out. absurd (partial (inl (sym c.size.ensures.size ∙ c.if-size-rows.true ∙ c.rows.ensures)))
-
 pub returns-then-size-cols-clause-no_search : goal.returns-then-size-cols-clause-no_search
 returns-then-size-cols-clause-no_search g c = λ h. refl
-
-pub returns-then-size-cols-clause-searched : goal.returns-then-size-cols-clause-searched
-returns-then-size-cols-clause-searched g c = λ partial other mated on. absurd (partial (inr (sym c.size-2.ensures.size ∙ c.if-size-cols.true ∙ c.cols.ensures)))
-
-pub returns-then-size-cols-clause-searched_to : goal.returns-then-size-cols-clause-searched_to
-returns-then-size-cols-clause-searched_to g c = λ partial other mated out. absurd (partial (inr (sym c.size-2.ensures.size ∙ c.if-size-cols.true ∙ c.cols.ensures)))
-
-pub returns-then-size-cols-clause-searched_from : goal.returns-then-size-cols-clause-searched_from
-returns-then-size-cols-clause-searched_from g c = λ partial other free on. absurd (partial (inr (sym c.size-2.ensures.size ∙ c.if-size-cols.true ∙ c.cols.ensures)))
-
-pub returns-then-size-cols-clause-paired : goal.returns-then-size-cols-clause-paired
-returns-then-size-cols-clause-paired g c = λ partial other free out. absurd (partial (inr (sym c.size-2.ensures.size ∙ c.if-size-cols.true ∙ c.cols.ensures)))
 
 pub returns-then-row_is_free-clause-no_search : goal.returns-then-row_is_free-clause-no_search
 returns-then-row_is_free-clause-no_search g c = λ h. absurd (⊎_elim (⊎_elim (λ e. c.if-size-rows.false (c.size.ensures.size ∙ e ∙ sym c.rows.ensures)) (λ e. c.if-size-cols.false (c.size-2.ensures.size ∙ e ∙ sym c.cols.ensures))) (λ covered. true≢false (sym (c.has.ensures.1 covered) ∙ c.if-has.false)) h)
@@ -119,3 +66,56 @@ returns-then-not-row_is_free-clause-no_search g c = λ h. absurd (⊎_elim (⊎_
 
 pub returns-clause-no_search : goal.returns-clause-no_search
 returns-clause-no_search g c = λ h. absurd (⊎_elim (⊎_elim (λ e. c.if-size-rows.false (c.size.ensures.size ∙ e ∙ sym c.rows.ensures)) (λ e. c.if-size-cols.false (c.size-2.ensures.size ∙ e ∙ sym c.cols.ensures))) (λ covered. true≢false (sym (c.has.ensures.1 covered) ∙ c.if-has.false)) h)
+
+pub returns-then-has-clause-searched : goal.returns-then-has-clause-searched
+returns-then-has-clause-searched g c unsettled = absurd (unsettled (inr (c.has.ensures.0 c.if-has.true)))
+
+pub returns-then-size-rows-clause-searched : goal.returns-then-size-rows-clause-searched
+returns-then-size-rows-clause-searched g c unsettled = absurd (unsettled (inl (inl (sym c.size.ensures.size ∙ c.if-size-rows.true ∙ c.rows.ensures))))
+
+pub returns-then-size-cols-clause-searched : goal.returns-then-size-cols-clause-searched
+returns-then-size-cols-clause-searched g c unsettled = absurd (unsettled (inl (inr (sym c.size-2.ensures.size ∙ c.if-size-cols.true ∙ c.cols.ensures))))
+
+pub returns-then-row_is_free-clause-searched : goal.returns-then-row_is_free-clause-searched
+returns-then-row_is_free-clause-searched g c unsettled =
+    let (s, pair) = some_found (λ r. Among {X = Place} (r, c.args.col) c.args.matching.now.pairs) c.row_of.result (sym c.is_some.ensures ∙ c.if-is_some.true) c.row_of.ensures.found in
+    let out : ¬ Among c.args.row (rows_of c.args.matching.now.pairs) = none_found _ c.col_of.result c.if-row_is_free.ensures c.col_of.ensures.none in
+    record {
+      over = λ mated on. absurd (out on);
+      to = λ mated free. subst (λ (b : Matrix). IsSearchedTo c.args.row c.args.columns.now.matrix b c.args.matching.now.pairs c.args.cover.now c.augment_to.new.matching.pairs c.augment_to.new.self c.args.steps.now c.augment_to.new.steps) c.requires.rows c.augment_to.ensures.searched;
+      from = λ none on. absurd (none (col_among s c.args.col c.args.matching.now.pairs pair));
+      paired = λ none free. absurd (none (col_among s c.args.col c.args.matching.now.pairs pair));
+    }
+
+pub returns-else-row_is_free-clause-searched : goal.returns-else-row_is_free-clause-searched
+returns-else-row_is_free-clause-searched g c unsettled =
+    let (s, pair) = some_found (λ r. Among {X = Place} (r, c.args.col) c.args.matching.now.pairs) c.row_of.result (sym c.is_some.ensures ∙ c.if-is_some.true) c.row_of.ensures.found in
+    let (d, mate) = some_found (λ x. Among {X = Place} (c.args.row, x) c.args.matching.now.pairs) c.col_of.result c.if-row_is_free.ensures c.col_of.ensures.found in
+    record {
+      over = λ mated on. c.augment_over.ensures.searched;
+      to = λ mated out. absurd (out (row_among c.args.row d c.args.matching.now.pairs mate));
+      from = λ none on. absurd (none (col_among s c.args.col c.args.matching.now.pairs pair));
+      paired = λ none out. absurd (none (col_among s c.args.col c.args.matching.now.pairs pair));
+    }
+
+pub returns-then-not-row_is_free-clause-searched : goal.returns-then-not-row_is_free-clause-searched
+returns-then-not-row_is_free-clause-searched g c unsettled =
+    let free : ¬ Among c.args.col (cols_of c.args.matching.now.pairs) = none_found _ c.row_of.result (sym c.is_some.ensures ∙ c.if-is_some.false) c.row_of.ensures.none in
+    let (d, mate) = some_found (λ x. Among {X = Place} (c.args.row, x) c.args.matching.now.pairs) c.col_of.result c.if-not-row_is_free.ensures c.col_of.ensures.found in
+    record {
+      over = λ mated on. absurd (free mated);
+      to = λ mated out. absurd (free mated);
+      from = λ none on. c.augment_from.ensures.searched;
+      paired = λ none out. absurd (out (row_among c.args.row d c.args.matching.now.pairs mate));
+    }
+
+pub returns-clause-searched : goal.returns-clause-searched
+returns-clause-searched g c unsettled =
+    let free : ¬ Among c.args.col (cols_of c.args.matching.now.pairs) = none_found _ c.row_of.result (sym c.is_some.ensures ∙ c.if-is_some.false) c.row_of.ensures.none in
+    let out : ¬ Among c.args.row (rows_of c.args.matching.now.pairs) = none_found _ c.col_of.result c.if-not-row_is_free.ensures c.col_of.ensures.none in
+    record {
+      over = λ mated on. absurd (free mated);
+      to = λ mated none. absurd (free mated);
+      from = λ none on. absurd (out on);
+      paired = λ none free. (c.pair.ensures.added, refl);
+    }

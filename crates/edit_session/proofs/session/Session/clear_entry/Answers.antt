@@ -45,16 +45,6 @@ returns-then-not-is_marked-clause-steps g c =
     let entry : IsEntry c.self.inside.columns.matrix c.args.row c.args.col = subst (λ (w : MatchedMatrix). IsEntry w.matrix c.args.row c.args.col) (sym c.self.view_is) c.requires.entry in
     cleared_steps c.self.inside.columns.matrix c.take.new.self.matrix c.self.inside.matching c.self.inside.cover (c.args.row, c.args.col) c.args.self.now c.args.steps.now c.augment_from.new.steps c.self.view_is c.take.ensures.matrix c.is_pattern.ensures entry c.augment_from.ensures.decided.steps
 
-pub returns-then-not-is_marked-clause-searched_to : goal.returns-then-not-is_marked-clause-searched_to
-returns-then-not-is_marked-clause-searched_to g c = subst (λ (w : MatchedMatrix). Among {X = Place} (c.args.row, c.args.col) w.matching.pairs → IsMarked w.marks c.args.col
-    → (rest : List Place) × IsParted (c.args.row, c.args.col) w.matching.pairs rest × IsSearchedTo c.args.row c.take.new.self.matrix (transpose c.take.new.self.matrix) rest w.marks c.augment_from.new.matching.pairs c.augment_from.new.self c.args.steps.now c.augment_from.new.steps) c.self.view_is
-    (λ h on. absurd (true≢false (sym (c.is_marked.ensures.1 (subst (λ (z : List Bool). IsMarked z c.args.col) (sym c.add_root.ensures) on)) ∙ c.if-not-is_marked.true)))
-
-pub returns-then-not-is_marked-clause-searched_from : goal.returns-then-not-is_marked-clause-searched_from
-returns-then-not-is_marked-clause-searched_from g c = subst (λ (w : MatchedMatrix). Among {X = Place} (c.args.row, c.args.col) w.matching.pairs → ¬ IsMarked w.marks c.args.col
-    → (rest : List Place) × IsParted (c.args.row, c.args.col) w.matching.pairs rest × IsSearchedFrom c.args.col c.take.new.self.matrix rest w.marks c.augment_from.new.matching.pairs c.augment_from.new.self c.args.steps.now c.augment_from.new.steps) c.self.view_is
-    (λ h off. (c.unpair.new.self.pairs, c.unpair.ensures.pairs, rw c.add_root.ensures at c.augment_from.ensures.searched))
-
 pub augment_to-requires-clause-free : goal.augment_to-requires-clause-free
 augment_to-requires-clause-free g c = parted_row_free (c.args.row, c.args.col) c.self.inside.matching.pairs c.unpair.new.self.pairs c.unpair.ensures.pairs
 
@@ -88,29 +78,38 @@ returns-clause-steps g c =
     let entry : IsEntry c.self.inside.columns.matrix c.args.row c.args.col = subst (λ (w : MatchedMatrix). IsEntry w.matrix c.args.row c.args.col) (sym c.self.view_is) c.requires.entry in
     cleared_steps c.self.inside.columns.matrix c.take.new.self.matrix c.self.inside.matching c.self.inside.cover (c.args.row, c.args.col) c.args.self.now c.args.steps.now c.augment_to.new.steps c.self.view_is c.take.ensures.matrix c.is_pattern.ensures entry c.augment_to.ensures.decided.steps
 
-pub returns-clause-searched_to : goal.returns-clause-searched_to
-returns-clause-searched_to g c =
-    let turned : c.take-2.new.self.matrix ≡ without_place c.self.inside.rows.matrix (c.args.col, c.args.row) = rw c.row.view_is at (rw c.col.view_is at c.take-2.ensures.matrix) in
-    subst (λ (w : MatchedMatrix). Among {X = Place} (c.args.row, c.args.col) w.matching.pairs → IsMarked w.marks c.args.col
-    → (rest : List Place) × IsParted (c.args.row, c.args.col) w.matching.pairs rest × IsSearchedTo c.args.row c.take.new.self.matrix (transpose c.take.new.self.matrix) rest w.marks c.augment_to.new.matching.pairs c.augment_to.new.self c.args.steps.now c.augment_to.new.steps) c.self.view_is
-    (λ h on. (c.unpair.new.self.pairs, c.unpair.ensures.pairs, subst (λ (b : Matrix). IsSearchedTo c.args.row c.take.new.self.matrix b c.unpair.new.self.pairs c.self.inside.cover c.augment_to.new.matching.pairs c.augment_to.new.self c.args.steps.now c.augment_to.new.steps) (cleared_rows c.self.inside.columns.matrix c.take.new.self.matrix c.self.inside.rows.matrix c.take-2.new.self.matrix (c.args.row, c.args.col) c.take.ensures.matrix c.self.invariant.rows turned) (rw c.add_root.ensures at c.augment_to.ensures.searched)))
-
-pub returns-clause-searched_from : goal.returns-clause-searched_from
-returns-clause-searched_from g c = subst (λ (w : MatchedMatrix). Among {X = Place} (c.args.row, c.args.col) w.matching.pairs → ¬ IsMarked w.marks c.args.col
-    → (rest : List Place) × IsParted (c.args.row, c.args.col) w.matching.pairs rest × IsSearchedFrom c.args.col c.take.new.self.matrix rest w.marks c.augment_to.new.matching.pairs c.augment_to.new.self c.args.steps.now c.augment_to.new.steps) c.self.view_is
-    (λ h off. absurd (off (subst (λ (z : List Bool). IsMarked z c.args.col) c.add_root.ensures (c.is_marked.ensures.0 c.if-not-is_marked.false))))
-
 pub returns-then-not-were_mates-clause-no_step : goal.returns-then-not-were_mates-clause-no_step
 returns-then-not-were_mates-clause-no_step g c = λ h. refl
-
-pub returns-then-not-were_mates-clause-searched_to : goal.returns-then-not-were_mates-clause-searched_to
-returns-then-not-were_mates-clause-searched_to g c = λ h on. absurd (true≢false (sym (c.are_mates-were_mates.ensures.1 (subst (λ (w : MatchedMatrix). Among {X = Place} (c.args.row, c.args.col) w.matching.pairs) (sym c.self.view_is) h)) ∙ c.if-not-were_mates.true))
-
-pub returns-then-not-were_mates-clause-searched_from : goal.returns-then-not-were_mates-clause-searched_from
-returns-then-not-were_mates-clause-searched_from g c = λ h off. absurd (true≢false (sym (c.are_mates-were_mates.ensures.1 (subst (λ (w : MatchedMatrix). Among {X = Place} (c.args.row, c.args.col) w.matching.pairs) (sym c.self.view_is) h)) ∙ c.if-not-were_mates.true))
 
 pub returns-then-not-is_marked-clause-no_step : goal.returns-then-not-is_marked-clause-no_step
 returns-then-not-is_marked-clause-no_step g c = λ not. absurd (not (subst (λ (w : MatchedMatrix). Among {X = Place} (c.args.row, c.args.col) w.matching.pairs) c.self.view_is (c.are_mates-were_mates.ensures.0 c.if-not-were_mates.false)))
 
 pub returns-clause-no_step : goal.returns-clause-no_step
 returns-clause-no_step g c = λ not. absurd (not (subst (λ (w : MatchedMatrix). Among {X = Place} (c.args.row, c.args.col) w.matching.pairs) c.self.view_is (c.are_mates-were_mates.ensures.0 c.if-not-were_mates.false)))
+
+pub returns-then-not-is_marked-clause-searched : goal.returns-then-not-is_marked-clause-searched
+returns-then-not-is_marked-clause-searched g c = record {
+  to = subst (λ (w : MatchedMatrix). Among {X = Place} (c.args.row, c.args.col) w.matching.pairs → IsMarked w.marks c.args.col
+      → (rest : List Place) × IsParted (c.args.row, c.args.col) w.matching.pairs rest × IsSearchedTo c.args.row c.take.new.self.matrix (transpose c.take.new.self.matrix) rest w.marks c.augment_from.new.matching.pairs c.augment_from.new.self c.args.steps.now c.augment_from.new.steps) c.self.view_is
+      (λ h on. absurd (true≢false (sym (c.is_marked.ensures.1 (subst (λ (z : List Bool). IsMarked z c.args.col) (sym c.add_root.ensures) on)) ∙ c.if-not-is_marked.true)));
+  from = subst (λ (w : MatchedMatrix). Among {X = Place} (c.args.row, c.args.col) w.matching.pairs → ¬ IsMarked w.marks c.args.col
+      → (rest : List Place) × IsParted (c.args.row, c.args.col) w.matching.pairs rest × IsSearchedFrom c.args.col c.take.new.self.matrix rest w.marks c.augment_from.new.matching.pairs c.augment_from.new.self c.args.steps.now c.augment_from.new.steps) c.self.view_is
+      (λ h off. (c.unpair.new.self.pairs, c.unpair.ensures.pairs, rw c.add_root.ensures at c.augment_from.ensures.searched));
+}
+
+pub returns-clause-searched : goal.returns-clause-searched
+returns-clause-searched g c = record {
+  to = let turned : c.take-2.new.self.matrix ≡ without_place c.self.inside.rows.matrix (c.args.col, c.args.row) = rw c.row.view_is at (rw c.col.view_is at c.take-2.ensures.matrix) in
+      subst (λ (w : MatchedMatrix). Among {X = Place} (c.args.row, c.args.col) w.matching.pairs → IsMarked w.marks c.args.col
+      → (rest : List Place) × IsParted (c.args.row, c.args.col) w.matching.pairs rest × IsSearchedTo c.args.row c.take.new.self.matrix (transpose c.take.new.self.matrix) rest w.marks c.augment_to.new.matching.pairs c.augment_to.new.self c.args.steps.now c.augment_to.new.steps) c.self.view_is
+      (λ h on. (c.unpair.new.self.pairs, c.unpair.ensures.pairs, subst (λ (b : Matrix). IsSearchedTo c.args.row c.take.new.self.matrix b c.unpair.new.self.pairs c.self.inside.cover c.augment_to.new.matching.pairs c.augment_to.new.self c.args.steps.now c.augment_to.new.steps) (cleared_rows c.self.inside.columns.matrix c.take.new.self.matrix c.self.inside.rows.matrix c.take-2.new.self.matrix (c.args.row, c.args.col) c.take.ensures.matrix c.self.invariant.rows turned) (rw c.add_root.ensures at c.augment_to.ensures.searched)));
+  from = subst (λ (w : MatchedMatrix). Among {X = Place} (c.args.row, c.args.col) w.matching.pairs → ¬ IsMarked w.marks c.args.col
+      → (rest : List Place) × IsParted (c.args.row, c.args.col) w.matching.pairs rest × IsSearchedFrom c.args.col c.take.new.self.matrix rest w.marks c.augment_to.new.matching.pairs c.augment_to.new.self c.args.steps.now c.augment_to.new.steps) c.self.view_is
+      (λ h off. absurd (off (subst (λ (z : List Bool). IsMarked z c.args.col) c.add_root.ensures (c.is_marked.ensures.0 c.if-not-is_marked.false))));
+}
+
+pub returns-then-not-were_mates-clause-searched : goal.returns-then-not-were_mates-clause-searched
+returns-then-not-were_mates-clause-searched g c = record {
+  to = λ h on. absurd (true≢false (sym (c.are_mates-were_mates.ensures.1 (subst (λ (w : MatchedMatrix). Among {X = Place} (c.args.row, c.args.col) w.matching.pairs) (sym c.self.view_is) h)) ∙ c.if-not-were_mates.true));
+  from = λ h off. absurd (true≢false (sym (c.are_mates-were_mates.ensures.1 (subst (λ (w : MatchedMatrix). Among {X = Place} (c.args.row, c.args.col) w.matching.pairs) (sym c.self.view_is) h)) ∙ c.if-not-were_mates.true));
+}

@@ -1,16 +1,11 @@
-use Rattle.std.proofs.Common.{◌≡◌, ◌⊎◌, ◌<◌, ◌∙◌, ℕ, ap, inl, inr, subst, sym, true≢false, ⊎_elim}
+use Rattle.std.proofs.Common.{◌≡◌, ◌<◌, ◌∙◌, ap, inl, inr, subst, sym, true≢false, ⊎_elim}
 use Rattle.bip_defs.specs.EditedMatrix.{with_place}
-use Rattle.bip_defs.specs.Lists.{Among}
-use Rattle.bip_defs.specs.Matching.{cols_of, rows_of}
-use Rattle.bip_defs.specs.Matrix.{IsEntry, Matrix, Place, cols, entry_count, transpose}
+use Rattle.bip_defs.specs.Matrix.{IsEntry, Matrix, cols, entry_count}
 use Rattle.bip_defs.proofs.EditLemmas.{with_place_new, without_goes_back}
 use Rattle.bip_graph.specs.Matching.{IsMatchingOf}
-use Rattle.vertex_cover.specs.Back.{IsSearchedTo}
-use Rattle.vertex_cover.specs.Covers.{IsCovered, IsSearchedFrom}
-use Rattle.vertex_cover.specs.Over.{IsSearchedOver}
 use Rattle.sp_ids.specs.Limits.{max_entries}
-use Rattle.edit_session.specs.Sessions.{IsSaturating, IsPaired, MatchedMatrix}
-use Rattle.edit_session.proofs.SessionLemmas.{room_left, set_again, set_cover, set_matching, set_rows, set_saturating, turned_room_left}
+use Rattle.edit_session.specs.Sessions.{MatchedMatrix, NeedsNoSearch, SetSearches}
+use Rattle.edit_session.proofs.SessionLemmas.{matched, room_left, set_again, set_cover, set_matching, set_rows, set_saturating, turned_room_left}
 use Rattle.edit_session.proofs.TransposeLemmas.{turned_few, turned_within}
 use Rattle.edit_session.proofs.session.Session.set.Goals as goal
 
@@ -21,18 +16,6 @@ pub make_room-requires-clause-few : goal.make_room-requires-clause-few
 make_room-requires-clause-few g c = room_left c.self.inside.columns.matrix c.args.row c.args.col c.is_pattern.ensures
     (subst (λ (w : MatchedMatrix). c.args.row < w.matrix.rows) (sym c.self.view_is) c.requires.row)
     (λ e. true≢false (sym (c.has.ensures.1 e) ∙ c.if-has.false))
-
-pub match_entry-requires-clause-entry : goal.match_entry-requires-clause-entry
-match_entry-requires-clause-entry g c =
-    let put : c.insert.new.self.matrix ≡ with_place c.self.inside.columns.matrix (c.args.row, c.args.col) = c.insert.ensures.matrix ∙ ap (λ (a : Matrix). with_place a (c.args.row, c.args.col)) c.in_ok-make_room.ensures.matrix in
-    subst (λ (a : Matrix). IsEntry a c.args.row c.args.col) (sym put) (with_place_new c.self.inside.columns.matrix (c.args.row, c.args.col)
-    (subst (λ (w : MatchedMatrix). c.args.row < w.matrix.rows) (sym c.self.view_is) c.requires.row)
-    (subst (λ (w : MatchedMatrix). c.args.col < cols w.matrix) (sym c.self.view_is) c.requires.col))
-
-pub match_entry-requires-clause-matching : goal.match_entry-requires-clause-matching
-match_entry-requires-clause-matching g c =
-    let put : c.insert.new.self.matrix ≡ with_place c.self.inside.columns.matrix (c.args.row, c.args.col) = c.insert.ensures.matrix ∙ ap (λ (a : Matrix). with_place a (c.args.row, c.args.col)) c.in_ok-make_room.ensures.matrix in
-    subst (λ (a : Matrix). IsMatchingOf a c.self.inside.matching) (sym put) (set_matching c.self.inside.columns.matrix (c.args.row, c.args.col) c.self.inside.matching c.self.invariant.maximum.matching)
 
 pub make_room-requires-2-clause-col : goal.make_room-requires-2-clause-col
 make_room-requires-2-clause-col g c = rw c.row.view_is (turned_within c.self.inside.columns.matrix c.self.inside.rows.matrix c.args.row c.self.invariant.rows
@@ -51,67 +34,43 @@ pub insert-requires-2-clause-few : goal.insert-requires-2-clause-few
 insert-requires-2-clause-few g c = turned_few c.self.inside.columns.matrix c.make_room-2.new.self.matrix (c.in_ok-make_room-2.ensures.matrix ∙ c.self.invariant.rows) c.is_pattern.ensures
     (subst (λ (w : MatchedMatrix). entry_count w.matrix < max_entries) (sym c.self.view_is) c.requires.few)
 
-pub match_entry-requires-clause-rows : goal.match_entry-requires-clause-rows
-match_entry-requires-clause-rows g c =
-    let a = c.self.inside.columns.matrix in
-    let put : c.insert.new.self.matrix ≡ with_place a (c.args.row, c.args.col) = c.insert.ensures.matrix ∙ ap (λ (z : Matrix). with_place z (c.args.row, c.args.col)) c.in_ok-make_room.ensures.matrix in
-    let turned : c.insert-2.new.self.matrix ≡ with_place c.make_room-2.new.self.matrix (c.args.col, c.args.row) = rw c.row-2.view_is at (rw c.col.view_is at c.insert-2.ensures.matrix) in
-    set_rows a c.insert.new.self.matrix c.self.inside.rows.matrix c.insert-2.new.self.matrix (c.args.row, c.args.col) put c.self.invariant.rows
-    (turned ∙ ap (λ (z : Matrix). with_place z (c.args.col, c.args.row)) c.in_ok-make_room-2.ensures.matrix)
-    (subst (λ (w : MatchedMatrix). c.args.row < w.matrix.rows) (sym c.self.view_is) c.requires.row)
-    (subst (λ (w : MatchedMatrix). c.args.col < cols w.matrix) (sym c.self.view_is) c.requires.col)
-
-pub match_entry-requires-clause-cover : goal.match_entry-requires-clause-cover
-match_entry-requires-clause-cover g c =
-    let a = c.self.inside.columns.matrix in
-    let put : c.insert.new.self.matrix ≡ with_place a (c.args.row, c.args.col) = c.insert.ensures.matrix ∙ ap (λ (b : Matrix). with_place b (c.args.row, c.args.col)) c.in_ok-make_room.ensures.matrix in
-    set_cover a c.insert.new.self.matrix (c.args.row, c.args.col) c.self.inside.matching.pairs c.self.inside.cover put
-    (without_goes_back a (c.args.row, c.args.col) (c.is_pattern.ensures.columns c.args.col) (λ e. true≢false (sym (c.has.ensures.1 e) ∙ c.if-has.false)) (subst (λ (w : MatchedMatrix). c.args.col < cols w.matrix) (sym c.self.view_is) c.requires.col))
-    c.self.invariant.cover
+pub match_entry-requires : goal.match_entry-requires
+match_entry-requires g c = record {
+  entry = let put : c.insert.new.self.matrix ≡ with_place c.self.inside.columns.matrix (c.args.row, c.args.col) = c.insert.ensures.matrix ∙ ap (λ (a : Matrix). with_place a (c.args.row, c.args.col)) c.in_ok-make_room.ensures.matrix in
+      subst (λ (a : Matrix). IsEntry a c.args.row c.args.col) (sym put) (with_place_new c.self.inside.columns.matrix (c.args.row, c.args.col)
+      (subst (λ (w : MatchedMatrix). c.args.row < w.matrix.rows) (sym c.self.view_is) c.requires.row)
+      (subst (λ (w : MatchedMatrix). c.args.col < cols w.matrix) (sym c.self.view_is) c.requires.col));
+  matching = let put : c.insert.new.self.matrix ≡ with_place c.self.inside.columns.matrix (c.args.row, c.args.col) = c.insert.ensures.matrix ∙ ap (λ (a : Matrix). with_place a (c.args.row, c.args.col)) c.in_ok-make_room.ensures.matrix in
+      subst (λ (a : Matrix). IsMatchingOf a c.self.inside.matching) (sym put) (set_matching c.self.inside.columns.matrix (c.args.row, c.args.col) c.self.inside.matching c.self.invariant.maximum.matching);
+  rows = let a = c.self.inside.columns.matrix in
+      let put : c.insert.new.self.matrix ≡ with_place a (c.args.row, c.args.col) = c.insert.ensures.matrix ∙ ap (λ (z : Matrix). with_place z (c.args.row, c.args.col)) c.in_ok-make_room.ensures.matrix in
+      let turned : c.insert-2.new.self.matrix ≡ with_place c.make_room-2.new.self.matrix (c.args.col, c.args.row) = rw c.row-2.view_is at (rw c.col.view_is at c.insert-2.ensures.matrix) in
+      set_rows a c.insert.new.self.matrix c.self.inside.rows.matrix c.insert-2.new.self.matrix (c.args.row, c.args.col) put c.self.invariant.rows
+      (turned ∙ ap (λ (z : Matrix). with_place z (c.args.col, c.args.row)) c.in_ok-make_room-2.ensures.matrix)
+      (subst (λ (w : MatchedMatrix). c.args.row < w.matrix.rows) (sym c.self.view_is) c.requires.row)
+      (subst (λ (w : MatchedMatrix). c.args.col < cols w.matrix) (sym c.self.view_is) c.requires.col);
+  cover = let a = c.self.inside.columns.matrix in
+      let put : c.insert.new.self.matrix ≡ with_place a (c.args.row, c.args.col) = c.insert.ensures.matrix ∙ ap (λ (b : Matrix). with_place b (c.args.row, c.args.col)) c.in_ok-make_room.ensures.matrix in
+      set_cover a c.insert.new.self.matrix (c.args.row, c.args.col) c.self.inside.matching.pairs c.self.inside.cover put
+      (without_goes_back a (c.args.row, c.args.col) (c.is_pattern.ensures.columns c.args.col) (λ e. true≢false (sym (c.has.ensures.1 e) ∙ c.if-has.false)) (subst (λ (w : MatchedMatrix). c.args.col < cols w.matrix) (sym c.self.view_is) c.requires.col))
+      c.self.invariant.cover;
+}
 
 pub returns-then-has-clause-searched : goal.returns-then-has-clause-searched
-returns-then-has-clause-searched g c none partial other mated matched = absurd (none (subst (λ (w : MatchedMatrix). IsEntry w.matrix c.args.row c.args.col) c.self.view_is (c.has.ensures.0 c.if-has.true)))
+returns-then-has-clause-searched g c unsettled = absurd (unsettled (inl (subst (λ (w : MatchedMatrix). IsEntry w.matrix c.args.row c.args.col) c.self.view_is (c.has.ensures.0 c.if-has.true))))
 
 pub returns-clause-searched : goal.returns-clause-searched
-returns-clause-searched g c none =
+returns-clause-searched g c =
     let a = c.self.inside.columns.matrix in
     let put : c.insert.new.self.matrix ≡ with_place a (c.args.row, c.args.col) = c.insert.ensures.matrix ∙ ap (λ (b : Matrix). with_place b (c.args.row, c.args.col)) c.in_ok-make_room.ensures.matrix in
-    subst (λ (w : MatchedMatrix). ¬ IsSaturating w.matrix w.matching.pairs → ¬ IsCovered w.matching.pairs w.marks (c.args.row, c.args.col) → Among c.args.col (cols_of w.matching.pairs) → Among c.args.row (rows_of w.matching.pairs)
-    → (mate : ℕ) × Among {X = Place} (c.args.row, mate) w.matching.pairs × IsSearchedOver (c.args.row, mate) c.insert.new.self.matrix w.matching.pairs w.marks c.match_entry.new.matching.pairs c.match_entry.new.cover c.args.steps.now c.match_entry.new.steps) c.self.view_is (λ partial. c.match_entry.ensures.searched (λ full. partial ((set_saturating a c.insert.new.self.matrix c.self.inside.matching.pairs (c.args.row, c.args.col) put).1 full)))
-
-pub returns-then-has-clause-searched_to : goal.returns-then-has-clause-searched_to
-returns-then-has-clause-searched_to g c none partial other mated out = absurd (none (subst (λ (w : MatchedMatrix). IsEntry w.matrix c.args.row c.args.col) c.self.view_is (c.has.ensures.0 c.if-has.true)))
-
-pub returns-clause-searched_to : goal.returns-clause-searched_to
-returns-clause-searched_to g c none =
-    let a = c.self.inside.columns.matrix in
-    let put : c.insert.new.self.matrix ≡ with_place a (c.args.row, c.args.col) = c.insert.ensures.matrix ∙ ap (λ (b : Matrix). with_place b (c.args.row, c.args.col)) c.in_ok-make_room.ensures.matrix in
-    subst (λ (w : MatchedMatrix). ¬ IsSaturating w.matrix w.matching.pairs → ¬ IsCovered w.matching.pairs w.marks (c.args.row, c.args.col) → Among c.args.col (cols_of w.matching.pairs) → ¬ Among c.args.row (rows_of w.matching.pairs)
-    → IsSearchedTo c.args.row c.insert.new.self.matrix (transpose c.insert.new.self.matrix) w.matching.pairs w.marks c.match_entry.new.matching.pairs c.match_entry.new.cover c.args.steps.now c.match_entry.new.steps) c.self.view_is (λ partial. c.match_entry.ensures.searched_to (λ full. partial ((set_saturating a c.insert.new.self.matrix c.self.inside.matching.pairs (c.args.row, c.args.col) put).1 full)))
-
-pub returns-then-has-clause-searched_from : goal.returns-then-has-clause-searched_from
-returns-then-has-clause-searched_from g c none partial other free mated = absurd (none (subst (λ (w : MatchedMatrix). IsEntry w.matrix c.args.row c.args.col) c.self.view_is (c.has.ensures.0 c.if-has.true)))
-
-pub returns-clause-searched_from : goal.returns-clause-searched_from
-returns-clause-searched_from g c none =
-    let a = c.self.inside.columns.matrix in
-    let put : c.insert.new.self.matrix ≡ with_place a (c.args.row, c.args.col) = c.insert.ensures.matrix ∙ ap (λ (b : Matrix). with_place b (c.args.row, c.args.col)) c.in_ok-make_room.ensures.matrix in
-    subst (λ (w : MatchedMatrix). ¬ IsSaturating w.matrix w.matching.pairs → ¬ IsCovered w.matching.pairs w.marks (c.args.row, c.args.col) → ¬ Among c.args.col (cols_of w.matching.pairs) → Among c.args.row (rows_of w.matching.pairs)
-    → IsSearchedFrom c.args.col c.insert.new.self.matrix w.matching.pairs w.marks c.match_entry.new.matching.pairs c.match_entry.new.cover c.args.steps.now c.match_entry.new.steps) c.self.view_is (λ partial. c.match_entry.ensures.searched_from (λ full. partial ((set_saturating a c.insert.new.self.matrix c.self.inside.matching.pairs (c.args.row, c.args.col) put).1 full)))
-
-pub returns-then-has-clause-paired : goal.returns-then-has-clause-paired
-returns-then-has-clause-paired g c none partial other free out = absurd (none (subst (λ (w : MatchedMatrix). IsEntry w.matrix c.args.row c.args.col) c.self.view_is (c.has.ensures.0 c.if-has.true)))
-
-pub returns-clause-paired : goal.returns-clause-paired
-returns-clause-paired g c none =
-    let a = c.self.inside.columns.matrix in
-    let put : c.insert.new.self.matrix ≡ with_place a (c.args.row, c.args.col) = c.insert.ensures.matrix ∙ ap (λ (b : Matrix). with_place b (c.args.row, c.args.col)) c.in_ok-make_room.ensures.matrix in
-    subst (λ (w : MatchedMatrix). ¬ IsSaturating w.matrix w.matching.pairs → ¬ IsCovered w.matching.pairs w.marks (c.args.row, c.args.col) → ¬ Among c.args.col (cols_of w.matching.pairs) → ¬ Among c.args.row (rows_of w.matching.pairs)
-    → IsPaired (c.args.row, c.args.col) w.matching.pairs c.match_entry.new.matching.pairs × (c.match_entry.new.steps ≡ c.args.steps.now)) c.self.view_is (λ partial. c.match_entry.ensures.paired (λ full. partial ((set_saturating a c.insert.new.self.matrix c.self.inside.matching.pairs (c.args.row, c.args.col) put).1 full)))
+    let saturates = set_saturating a c.insert.new.self.matrix c.self.inside.matching.pairs (c.args.row, c.args.col) put in
+    subst (λ (w : MatchedMatrix). ¬ NeedsNoSearch (c.args.row, c.args.col) w → SetSearches (c.args.row, c.args.col) w (matched c.insert.new.self.matrix c.match_entry.new.matching c.match_entry.new.cover) c.args.steps.now c.match_entry.new.steps) c.self.view_is
+    (λ unsettled. c.match_entry.ensures.searched (λ settled. unsettled (inr (⊎_elim (λ full. inl (saturates.1 full)) (λ had. inr had) settled))))
 
 pub returns-clause-no_search : goal.returns-clause-no_search
 returns-clause-no_search g c =
     let a = c.self.inside.columns.matrix in
     let put : c.insert.new.self.matrix ≡ with_place a (c.args.row, c.args.col) = c.insert.ensures.matrix ∙ ap (λ (b : Matrix). with_place b (c.args.row, c.args.col)) c.in_ok-make_room.ensures.matrix in
-    subst (λ (w : MatchedMatrix). IsSaturating w.matrix w.matching.pairs ⊎ IsCovered w.matching.pairs w.marks (c.args.row, c.args.col) → c.match_entry.new.steps ≡ c.args.steps.now) c.self.view_is
-    (λ h. c.match_entry.ensures.no_search (⊎_elim (λ full. inl ((set_saturating a c.insert.new.self.matrix c.self.inside.matching.pairs (c.args.row, c.args.col) put).0 full)) (λ had. inr had) h))
+    let saturates = set_saturating a c.insert.new.self.matrix c.self.inside.matching.pairs (c.args.row, c.args.col) put in
+    subst (λ (w : MatchedMatrix). NeedsNoSearch (c.args.row, c.args.col) w → c.match_entry.new.steps ≡ c.args.steps.now) c.self.view_is
+    (λ h. ⊎_elim (λ entry. absurd (true≢false (sym (c.has.ensures.1 entry) ∙ c.if-has.false))) (λ settled. c.match_entry.ensures.no_search (⊎_elim (λ full. inl (saturates.0 full)) (λ had. inr had) settled)) h)
