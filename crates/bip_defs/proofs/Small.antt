@@ -12,7 +12,7 @@ use Rattle.bip_defs.specs.Lists.{Among, AreDistinct, Lists}
 use Rattle.bip_defs.specs.Matching.{IsMatching, IsMaximum, cols_of, transposed_places}
 use Rattle.bip_defs.specs.Matrix.{HasPlaces, IsEntry, Matrix, Place, column, cols, transpose, upto}
 use Rattle.bip_defs.specs.Searches.{AreReadOff}
-use Rattle.bip_defs.specs.Small.{lower_triangle, lower_triangle_parts, single, wide_row, wide_row_parts}
+use Rattle.bip_defs.specs.Small.{lower_triangle, lower_triangle_parts, outer_parts_alone, single, wide_row, wide_row_parts}
 use Rattle.bip_defs.specs.Parts.{ArePartsOf, IsHorizontalCol, IsHorizontalRow, IsSquareCol, IsSquareRow, IsVerticalCol, IsVerticalRow}
 use Rattle.bip_defs.proofs.Sets.{col_pair, entry_col, lists_same, lists_unique, number_same, rising_distinct, row_pair, upto_rising, upto_lists}
 
@@ -74,7 +74,7 @@ no_square a rows columns = record {
     none (RowAt r) s = rows r s
     none (ColAt c) s = columns c s
 
-pub no_entries : (a : Matrix) → ((r c : ℕ) → ¬ IsEntry a r c) → IsDecompositionOf a (record { rank = 0; parts = record { horizontal_rows = []; horizontal_cols = upto (cols a); square_rows = []; square_cols = []; vertical_rows = upto a.rows; vertical_cols = [] }; blocks = [] })
+pub no_entries : (a : Matrix) → ((r c : ℕ) → ¬ IsEntry a r c) → IsDecompositionOf a (outer_parts_alone a)
 no_entries a bare = record {
   rank = ([], no_pairs a bare, refl);
   parts = bare_parts a bare;

@@ -2,7 +2,7 @@
 use Rattle.std.specs.Prelude.{ℕ, [], ◌∷◌}
 use Rattle.bip_defs.specs.Blocks.{Block}
 use Rattle.bip_defs.specs.Decomposition.{Decomposition}
-use Rattle.bip_defs.specs.Matrix.{Matrix}
+use Rattle.bip_defs.specs.Matrix.{Matrix, cols, upto}
 
 -- two rows and two columns, and both entries in the first row
 abbrev pub wide_row : Matrix
@@ -46,4 +46,19 @@ lower_triangle_parts = record {
     vertical_cols = [];
   };
   blocks = single 2 ∷ single 1 ∷ single 0 ∷ [];
+}
+
+-- what a matrix without entries has: all columns are horizontal, and all rows vertical
+abbrev pub outer_parts_alone : Matrix → Decomposition
+outer_parts_alone a = record {
+  rank = 0;
+  parts = record {
+    horizontal_rows = [];
+    horizontal_cols = upto (cols a);
+    square_rows = [];
+    square_cols = [];
+    vertical_rows = upto a.rows;
+    vertical_cols = [];
+  };
+  blocks = [];
 }

@@ -4,8 +4,8 @@
 ghost use Rattle.std.specs.Prelude.{◌↔◌, ◌<◌, ℕ, List, [], ◌∷◌};
 ghost use Rattle.bip_defs.specs.Decomposition.{IsDecompositionOf};
 ghost use Rattle.bip_defs.specs.Lists.{Among, Lists};
-ghost use Rattle.bip_defs.specs.Small.{lower_triangle, lower_triangle_parts, single, whole_triangle, wide_row, wide_row_parts};
-ghost use Rattle.bip_defs.specs.Matrix.{HasPlaces, IsEntry, Matrix, Place, cols, upto};
+ghost use Rattle.bip_defs.specs.Small.{lower_triangle, lower_triangle_parts, outer_parts_alone, single, whole_triangle, wide_row, wide_row_parts};
+ghost use Rattle.bip_defs.specs.Matrix.{HasPlaces, IsEntry, Matrix, Place};
 ghost use Rattle.bip_defs.specs.Triangular.{IsBlockUpperTriangular, IsProperPart, IsRowOver, diagonal_blocks};
 
 /// A place given twice stands for one entry, and no place is out of range.
@@ -20,19 +20,7 @@ pub fn given_places()
 /// rows vertical.
 pub fn no_entries()
     ensures { (a : Matrix) → ((r c : ℕ) → ¬ IsEntry a r c)
-        → IsDecompositionOf a
-        (record {
-          rank = 0;
-          parts = record {
-            horizontal_rows = [];
-            horizontal_cols = upto (cols a);
-            square_rows = [];
-            square_cols = [];
-            vertical_rows = upto a.rows;
-            vertical_cols = [];
-          };
-          blocks = [];
-        }) }
+        → IsDecompositionOf a (outer_parts_alone a) }
 {}
 
 /// Two columns with one row: both are horizontal, and the other row is vertical.

@@ -14,10 +14,9 @@ struct Summary {
 
 /// Seed 0 and size 30: column j has the rows 2 j, 3 j and 5 j, so multiples of 2, 3 or 5, of which
 /// there are 22 below 30. Of size 2 and seed 1, column 0 has the rows 1, 0 and 1, and column 1 the
-/// rows 1, 1 and 0. Of size 1 there is one place. That size 10,001 and seed 7 make one block is what
-/// CXSparse and SuiteSparse BTF say of their matrix.
+/// rows 1, 1 and 0. Of size 1 there is one place.
 #[rattlefmt::skip]
-static SUMMARIES: [Summary; 5] = [
+static SMALL: [Summary; 4] = [
     Summary {
         size: "--size 30",
         seed: "--seed 0",
@@ -38,28 +37,24 @@ static SUMMARIES: [Summary; 5] = [
         seed: "--seed 18446744073709551615",
         text: b"matrix 1 1 1\nrank 1\nhorizontal 0 0\nsquare 1 1\nvertical 0 0\n",
     },
-    Summary {
-        size: "--size 10001",
-        seed: "--seed 7",
-        text: b"matrix 10001 10001 30000\nrank 10001\nhorizontal 0 0\nsquare 10001 1\nvertical 0 0\n",
-    },
 ];
 
-/// Each engine with one and with several workers.
-#[rattlefmt::skip]
-static CHOICES: [(&str, &str); 12] = [
-    ("load --workers 1", "--engine plain"),
-    ("load --workers 2", "--engine plain"),
-    ("load --workers 64", "--engine plain"),
-    ("load --workers 1", "--engine mc21"),
-    ("load --workers 2", "--engine mc21"),
-    ("load --workers 64", "--engine mc21"),
-    ("load --workers 1", "--engine pf"),
-    ("load --workers 2", "--engine pf"),
-    ("load --workers 64", "--engine pf"),
-    ("load --workers 1", "--engine graft"),
-    ("load --workers 2", "--engine graft"),
-    ("load --workers 64", "--engine graft"),
+/// That this matrix makes one block is what CXSparse and SuiteSparse BTF say of it.
+static LARGE: Summary = Summary {
+    size: "--size 10001",
+    seed: "--seed 7",
+    text: b"matrix 10001 10001 30000\nrank 10001\nhorizontal 0 0\nsquare 10001 1\nvertical 0 0\n",
+};
+
+/// One worker and several.
+static WORKERS: [&str; 3] = ["load --workers 1", "load --workers 2", "load --workers 64"];
+
+/// The words of each engine.
+static ENGINES: [&str; 4] = [
+    "--engine plain",
+    "--engine mc21",
+    "--engine pf",
+    "--engine graft",
 ];
 
 /// Whether these words give this text. A file that is there is not looked at.
@@ -70,11 +65,21 @@ fn is_summed<R: Threads + AllocGlobal + Sync>(rt: &R, words: &[&str], text: &[u8
     }
 }
 
-/// Whether a summary is given where nothing is chosen, and by each choice.
-fn is_given<R: Threads + AllocGlobal + Sync>(rt: &R, summary: &Summary) -> bool {
-    for (workers, engine) in &CHOICES {
-        let words = [*workers, summary.seed, *engine, summary.size];
+/// Whether an engine gives a summary with each number of workers.
+fn is_given_by<R: Threads + AllocGlobal + Sync>(rt: &R, engine: &str, summary: &Summary) -> bool {
+    for workers in &WORKERS {
+        let words = [*workers, summary.seed, engine, summary.size];
         if !is_summed(rt, &words, summary.text) {
+            return false;
+        }
+    }
+    true
+}
+
+/// Whether each engine gives a summary, and no choice at all.
+fn is_given<R: Threads + AllocGlobal + Sync>(rt: &R, summary: &Summary) -> bool {
+    for engine in &ENGINES {
+        if !is_given_by(rt, engine, summary) {
             return false;
         }
     }
@@ -93,7 +98,32 @@ fn are_given<R: Threads + AllocGlobal + Sync>(rt: &R, summaries: &[Summary]) -> 
 
 #[test]
 fn summaries_by_each_engine(rt: HostRuntime) {
-    assert!(rt; are_given(&rt, &SUMMARIES));
+    assert!(rt; are_given(&rt, &SMALL));
+}
+
+#[test]
+fn large_summary_unasked(rt: HostRuntime) {
+    assert!(rt; is_summed(&rt, &["load", LARGE.size, LARGE.seed], LARGE.text));
+}
+
+#[test]
+fn large_summary_by_the_plain_engine(rt: HostRuntime) {
+    assert!(rt; is_given_by(&rt, "--engine plain", &LARGE));
+}
+
+#[test]
+fn large_summary_by_mc21(rt: HostRuntime) {
+    assert!(rt; is_given_by(&rt, "--engine mc21", &LARGE));
+}
+
+#[test]
+fn large_summary_by_pothen_fan(rt: HostRuntime) {
+    assert!(rt; is_given_by(&rt, "--engine pf", &LARGE));
+}
+
+#[test]
+fn large_summary_by_graft(rt: HostRuntime) {
+    assert!(rt; is_given_by(&rt, "--engine graft", &LARGE));
 }
 
 /// Devices whose first read fails.
