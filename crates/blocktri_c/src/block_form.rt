@@ -1,10 +1,6 @@
 //! The block triangular form, and the connected components of its outer parts.
 
-ghost use Rattle.std.specs.Prelude.{◌≡◌, ◌≢◌, pos};
-ghost use Rattle.blocktri.specs.Answers.{HasMatrix, HaveFormLengths, Tells};
-ghost use Rattle.blocktri.specs.Causes.{IsRefusal};
-ghost use Rattle.blocktri.specs.OuterComponents.{TellsComponents};
-ghost use Rattle.blocktri_c.specs.Statuses.{Refuses};
+ghost use Rattle.blocktri_c.specs.FormStatuses.{AnswersForm, TellsFault, form_lists};
 
 use crate::statuses::{OK, status};
 use blocktri::{Narrow, Sizes, Wide};
@@ -27,21 +23,14 @@ pub extern "C" fn blocktri_decomposition(
     sizes: &mut Sizes,
     fault: &mut u64,
 ) -> i32
-    ensures found { result ≡ pos 0 → HasMatrix rows starts.now ids.now
-        (λ a. Tells a sizes.new row_order.new column_order.new block_starts.old block_starts.new) }
-    ensures components { result ≡ pos 0 → HasMatrix rows starts.now ids.now
-        (λ a. TellsComponents a sizes.new row_component.new column_component.new) }
-    ensures fit { result ≡ pos 0 → HaveFormLengths rows starts.now row_order.old column_order.old
-        block_starts.old row_component.old column_component.old }
-    ensures no_fault { result ≡ pos 0 → fault.new ≡ fault.old }
-    ensures kept { result ≢ pos 0 → (row_order.new ≡ row_order.old)
-        × (column_order.new ≡ column_order.old) × (block_starts.new ≡ block_starts.old)
-        × (row_component.new ≡ row_component.old) × (column_component.new ≡ column_component.old)
-        × (sizes.new ≡ sizes.old) }
-    ensures refused { result ≢ pos 0
-        → Refuses (IsRefusal (HaveFormLengths rows starts.now row_order.old column_order.old
-        block_starts.old row_component.old column_component.old) rows starts.now ids.now) result
-        fault.old fault.new }
+    ensures answers { AnswersForm result rows starts.now ids.now
+        (form_lists row_order.old column_order.old block_starts.old row_component.old
+        column_component.old)
+        (form_lists row_order.new column_order.new block_starts.new row_component.new
+        column_component.new) sizes.old sizes.new }
+    ensures fault { TellsFault result rows starts.now ids.now
+        (form_lists row_order.old column_order.old block_starts.old row_component.old
+        column_component.old) fault.old fault.new }
 {
     let (starts, ids) = (Narrow { list: starts }, Narrow { list: ids });
     match blocktri::decomposition(
@@ -80,21 +69,14 @@ pub extern "C" fn blocktri_decomposition_64(
     sizes: &mut Sizes,
     fault: &mut u64,
 ) -> i32
-    ensures found { result ≡ pos 0 → HasMatrix rows starts.now ids.now
-        (λ a. Tells a sizes.new row_order.new column_order.new block_starts.old block_starts.new) }
-    ensures components { result ≡ pos 0 → HasMatrix rows starts.now ids.now
-        (λ a. TellsComponents a sizes.new row_component.new column_component.new) }
-    ensures fit { result ≡ pos 0 → HaveFormLengths rows starts.now row_order.old column_order.old
-        block_starts.old row_component.old column_component.old }
-    ensures no_fault { result ≡ pos 0 → fault.new ≡ fault.old }
-    ensures kept { result ≢ pos 0 → (row_order.new ≡ row_order.old)
-        × (column_order.new ≡ column_order.old) × (block_starts.new ≡ block_starts.old)
-        × (row_component.new ≡ row_component.old) × (column_component.new ≡ column_component.old)
-        × (sizes.new ≡ sizes.old) }
-    ensures refused { result ≢ pos 0
-        → Refuses (IsRefusal (HaveFormLengths rows starts.now row_order.old column_order.old
-        block_starts.old row_component.old column_component.old) rows starts.now ids.now) result
-        fault.old fault.new }
+    ensures answers { AnswersForm result rows starts.now ids.now
+        (form_lists row_order.old column_order.old block_starts.old row_component.old
+        column_component.old)
+        (form_lists row_order.new column_order.new block_starts.new row_component.new
+        column_component.new) sizes.old sizes.new }
+    ensures fault { TellsFault result rows starts.now ids.now
+        (form_lists row_order.old column_order.old block_starts.old row_component.old
+        column_component.old) fault.old fault.new }
 {
     let (starts, ids) = (Wide { list: starts }, Wide { list: ids });
     match blocktri::decomposition(

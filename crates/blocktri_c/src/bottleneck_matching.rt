@@ -1,9 +1,6 @@
 //! The bottleneck.
 
-ghost use Rattle.std.specs.Prelude.{◌≡◌, ◌≢◌, pos};
-ghost use Rattle.blocktri.specs.DiagonalCauses.{IsDiagonalRefusal};
-ghost use Rattle.blocktri.specs.Diagonals.{HasWeights, HaveBottleneckLengths, TellsBottleneck};
-ghost use Rattle.blocktri_c.specs.DiagonalStatuses.{RefusesDiagonal};
+ghost use Rattle.blocktri_c.specs.BottleneckStatuses.{AnswersBottleneck, TellsBottleneckFault, bottleneck_lists};
 
 use crate::diagonal_statuses::diagonal_status;
 use crate::statuses::OK;
@@ -25,19 +22,12 @@ pub extern "C" fn blocktri_bottleneck(
     columns_count: &mut u32,
     fault: &mut u64,
 ) -> i32
-    ensures found { result ≡ pos 0 → HasWeights rows starts.now ids.now values.now
-        (λ w. TellsBottleneck w (record { weight = least.new; columns = columns_count.new })
-        row_of_column.new columns.old columns.new) }
-    ensures fit { result ≡ pos 0 → HaveBottleneckLengths starts.now ids.now values.now
-        row_of_column.old columns.old }
-    ensures no_fault { result ≡ pos 0 → fault.new ≡ fault.old }
-    ensures kept { result ≢ pos 0 → (row_of_column.new ≡ row_of_column.old)
-        × (least.new ≡ least.old) × (columns.new ≡ columns.old)
-        × (columns_count.new ≡ columns_count.old) }
-    ensures refused { result ≢ pos 0
-        → RefusesDiagonal (IsDiagonalRefusal (HaveBottleneckLengths starts.now ids.now
-        values.now row_of_column.old columns.old) (λ w. ⊥) rows starts.now ids.now
-        values.now) result fault.old fault.new }
+    ensures answers { AnswersBottleneck result rows starts.now ids.now values.now
+        (bottleneck_lists row_of_column.old least.old columns.old columns_count.old)
+        (bottleneck_lists row_of_column.new least.new columns.new columns_count.new) }
+    ensures fault { TellsBottleneckFault result rows starts.now ids.now values.now
+        (bottleneck_lists row_of_column.old least.old columns.old columns_count.old)
+        fault.old fault.new }
 {
     let matrix = WeightedColumns {
         rows: rows as u64,
@@ -70,19 +60,12 @@ pub extern "C" fn blocktri_bottleneck_64(
     columns_count: &mut u32,
     fault: &mut u64,
 ) -> i32
-    ensures found { result ≡ pos 0 → HasWeights rows starts.now ids.now values.now
-        (λ w. TellsBottleneck w (record { weight = least.new; columns = columns_count.new })
-        row_of_column.new columns.old columns.new) }
-    ensures fit { result ≡ pos 0 → HaveBottleneckLengths starts.now ids.now values.now
-        row_of_column.old columns.old }
-    ensures no_fault { result ≡ pos 0 → fault.new ≡ fault.old }
-    ensures kept { result ≢ pos 0 → (row_of_column.new ≡ row_of_column.old)
-        × (least.new ≡ least.old) × (columns.new ≡ columns.old)
-        × (columns_count.new ≡ columns_count.old) }
-    ensures refused { result ≢ pos 0
-        → RefusesDiagonal (IsDiagonalRefusal (HaveBottleneckLengths starts.now ids.now
-        values.now row_of_column.old columns.old) (λ w. ⊥) rows starts.now ids.now
-        values.now) result fault.old fault.new }
+    ensures answers { AnswersBottleneck result rows starts.now ids.now values.now
+        (bottleneck_lists row_of_column.old least.old columns.old columns_count.old)
+        (bottleneck_lists row_of_column.new least.new columns.new columns_count.new) }
+    ensures fault { TellsBottleneckFault result rows starts.now ids.now values.now
+        (bottleneck_lists row_of_column.old least.old columns.old columns_count.old)
+        fault.old fault.new }
 {
     let matrix = WeightedColumns {
         rows,

@@ -1,11 +1,6 @@
 //! Orders of a square matrix with entries all along the diagonal.
 
-ghost use Rattle.std.specs.Prelude.{◌≡◌, ◌≢◌, ◌⊎◌, pos};
-ghost use Rattle.blocktri.specs.Answers.{HasMatrix, HaveLengths};
-ghost use Rattle.blocktri.specs.BlockOrders.{TellsBlockOrder};
-ghost use Rattle.blocktri.specs.Causes.{IsRefusal};
-ghost use Rattle.blocktri.specs.PerfectMatchings.{HasNoPerfectMatching};
-ghost use Rattle.blocktri_c.specs.Statuses.{Refuses};
+ghost use Rattle.blocktri_c.specs.OrderStatuses.{AnswersOrder, TellsOrderFault, order_lists};
 
 use crate::statuses::{OK, SINGULAR, status};
 use blocktri::{Narrow, Wide};
@@ -26,20 +21,12 @@ pub extern "C" fn blocktri_block_order(
     blocks: &mut u32,
     fault: &mut u64,
 ) -> i32
-    ensures found { result ≡ pos 0 → HasMatrix rows starts.now ids.now
-        (λ a. TellsBlockOrder a blocks.new row_order.new column_order.new block_starts.old
-        block_starts.new) }
-    ensures singular { result ≡ pos 1
-        → HasMatrix rows starts.now ids.now HasNoPerfectMatching }
-    ensures fit { (result ≡ pos 0) ⊎ (result ≡ pos 1)
-        → HaveLengths rows starts.now row_order.old column_order.old block_starts.old }
-    ensures no_fault { (result ≡ pos 0) ⊎ (result ≡ pos 1) → fault.new ≡ fault.old }
-    ensures kept { result ≢ pos 0 → (row_order.new ≡ row_order.old)
-        × (column_order.new ≡ column_order.old) × (block_starts.new ≡ block_starts.old)
-        × (blocks.new ≡ blocks.old) }
-    ensures refused { result ≢ pos 0 → result ≢ pos 1
-        → Refuses (IsRefusal (HaveLengths rows starts.now row_order.old column_order.old
-        block_starts.old) rows starts.now ids.now) result fault.old fault.new }
+    ensures answers { AnswersOrder result rows starts.now ids.now
+        (order_lists row_order.old column_order.old block_starts.old blocks.old)
+        (order_lists row_order.new column_order.new block_starts.new blocks.new) }
+    ensures fault { TellsOrderFault result rows starts.now ids.now
+        (order_lists row_order.old column_order.old block_starts.old blocks.old)
+        fault.old fault.new }
 {
     let (starts, ids) = (Narrow { list: starts }, Narrow { list: ids });
     match blocktri::block_order(
@@ -75,20 +62,12 @@ pub extern "C" fn blocktri_block_order_64(
     blocks: &mut u32,
     fault: &mut u64,
 ) -> i32
-    ensures found { result ≡ pos 0 → HasMatrix rows starts.now ids.now
-        (λ a. TellsBlockOrder a blocks.new row_order.new column_order.new block_starts.old
-        block_starts.new) }
-    ensures singular { result ≡ pos 1
-        → HasMatrix rows starts.now ids.now HasNoPerfectMatching }
-    ensures fit { (result ≡ pos 0) ⊎ (result ≡ pos 1)
-        → HaveLengths rows starts.now row_order.old column_order.old block_starts.old }
-    ensures no_fault { (result ≡ pos 0) ⊎ (result ≡ pos 1) → fault.new ≡ fault.old }
-    ensures kept { result ≢ pos 0 → (row_order.new ≡ row_order.old)
-        × (column_order.new ≡ column_order.old) × (block_starts.new ≡ block_starts.old)
-        × (blocks.new ≡ blocks.old) }
-    ensures refused { result ≢ pos 0 → result ≢ pos 1
-        → Refuses (IsRefusal (HaveLengths rows starts.now row_order.old column_order.old
-        block_starts.old) rows starts.now ids.now) result fault.old fault.new }
+    ensures answers { AnswersOrder result rows starts.now ids.now
+        (order_lists row_order.old column_order.old block_starts.old blocks.old)
+        (order_lists row_order.new column_order.new block_starts.new blocks.new) }
+    ensures fault { TellsOrderFault result rows starts.now ids.now
+        (order_lists row_order.old column_order.old block_starts.old blocks.old)
+        fault.old fault.new }
 {
     let (starts, ids) = (Wide { list: starts }, Wide { list: ids });
     match blocktri::block_order(

@@ -1,9 +1,6 @@
 //! The heaviest diagonal.
 
-ghost use Rattle.std.specs.Prelude.{◌≡◌, ◌≢◌, pos};
-ghost use Rattle.blocktri.specs.DiagonalCauses.{IsDiagonalRefusal};
-ghost use Rattle.blocktri.specs.Diagonals.{HasNoNarrowPrices, HasWeights, HaveHeaviestLengths, TellsHeaviest};
-ghost use Rattle.blocktri_c.specs.DiagonalStatuses.{RefusesDiagonal};
+ghost use Rattle.blocktri_c.specs.HeaviestStatuses.{AnswersHeaviest, TellsHeaviestFault, heaviest_lists};
 
 use crate::diagonal_statuses::diagonal_status;
 use crate::statuses::OK;
@@ -25,18 +22,12 @@ pub extern "C" fn blocktri_heaviest(
     sum: &mut Sum,
     fault: &mut u64,
 ) -> i32
-    ensures found { result ≡ pos 0 → HasWeights rows starts.now ids.now values.now
-        (λ w. TellsHeaviest w sum.new row_of_column.new row_prices.new column_prices.new) }
-    ensures fit { result ≡ pos 0 → HaveHeaviestLengths rows starts.now ids.now values.now
-        row_of_column.old row_prices.old column_prices.old }
-    ensures no_fault { result ≡ pos 0 → fault.new ≡ fault.old }
-    ensures kept { result ≢ pos 0 → (row_of_column.new ≡ row_of_column.old)
-        × (row_prices.new ≡ row_prices.old) × (column_prices.new ≡ column_prices.old)
-        × (sum.new ≡ sum.old) }
-    ensures refused { result ≢ pos 0
-        → RefusesDiagonal (IsDiagonalRefusal (HaveHeaviestLengths rows starts.now ids.now
-        values.now row_of_column.old row_prices.old column_prices.old) HasNoNarrowPrices
-        rows starts.now ids.now values.now) result fault.old fault.new }
+    ensures answers { AnswersHeaviest result rows starts.now ids.now values.now
+        (heaviest_lists row_of_column.old row_prices.old column_prices.old sum.old)
+        (heaviest_lists row_of_column.new row_prices.new column_prices.new sum.new) }
+    ensures fault { TellsHeaviestFault result rows starts.now ids.now values.now
+        (heaviest_lists row_of_column.old row_prices.old column_prices.old sum.old)
+        fault.old fault.new }
 {
     let matrix = WeightedColumns {
         rows: rows as u64,
@@ -68,18 +59,12 @@ pub extern "C" fn blocktri_heaviest_64(
     sum: &mut Sum,
     fault: &mut u64,
 ) -> i32
-    ensures found { result ≡ pos 0 → HasWeights rows starts.now ids.now values.now
-        (λ w. TellsHeaviest w sum.new row_of_column.new row_prices.new column_prices.new) }
-    ensures fit { result ≡ pos 0 → HaveHeaviestLengths rows starts.now ids.now values.now
-        row_of_column.old row_prices.old column_prices.old }
-    ensures no_fault { result ≡ pos 0 → fault.new ≡ fault.old }
-    ensures kept { result ≢ pos 0 → (row_of_column.new ≡ row_of_column.old)
-        × (row_prices.new ≡ row_prices.old) × (column_prices.new ≡ column_prices.old)
-        × (sum.new ≡ sum.old) }
-    ensures refused { result ≢ pos 0
-        → RefusesDiagonal (IsDiagonalRefusal (HaveHeaviestLengths rows starts.now ids.now
-        values.now row_of_column.old row_prices.old column_prices.old) HasNoNarrowPrices
-        rows starts.now ids.now values.now) result fault.old fault.new }
+    ensures answers { AnswersHeaviest result rows starts.now ids.now values.now
+        (heaviest_lists row_of_column.old row_prices.old column_prices.old sum.old)
+        (heaviest_lists row_of_column.new row_prices.new column_prices.new sum.new) }
+    ensures fault { TellsHeaviestFault result rows starts.now ids.now values.now
+        (heaviest_lists row_of_column.old row_prices.old column_prices.old sum.old)
+        fault.old fault.new }
 {
     let matrix = WeightedColumns {
         rows,
