@@ -73,6 +73,7 @@ pub record CanGrow (a : Matrix) (m : Pairing) (t : Trees) : Type 0 where
 
 -- within a phase: a matching of the matrix, and the trees that have grown so far
 pub record AreGrowing (a : Matrix) (m : Pairing) (t : Trees) : Type 0 where
+  pub few_rows : a.rows < 2 ^ 32
   pub few_cols : cols a < 2 ^ 32
   pub matching : IsMatchingOf a m
   pub forest : IsForest a m.pairs t

@@ -3,13 +3,11 @@
 ghost use Rattle.std.specs.Prelude.{◌≡◌, ℕ, ◌<◌, ◌≤◌, ◌^◌, length, map, slice_index, IfSome};
 ghost use Rattle.bip_defs.specs.Lists.{Among, IsMarked};
 ghost use Rattle.bip_defs.specs.Matching.{rows_of};
-ghost use Rattle.bip_defs.specs.Matrix.{cols};
 ghost use Rattle.path_search.specs.Search.{Unmarks};
 ghost use Rattle.path_search.specs.Trails.{HasPassed, read_place};
 
 use bip_graph::{Matching, Opposite};
 use sp_ids::{Id, Row};
-use sp_pattern::Side;
 
 // The place at which a list is read as its k-th, from its start or from its end.
 fn place_of(reversed: bool, len: usize, k: usize) -> usize
@@ -82,14 +80,6 @@ pub fn unmatched_row<F: Opposite>(
     }
     *look = at as u32;
     None
-}
-
-/// A side has less than 2^32 rows, and less than 2^32 columns: a fact for proofs, at no cost.
-pub fn sizes_fit<F: Id, S: Side<F>>(side: &S)
-    ensures rows { (S.matrix side.now).rows < 2 ^ 32 }
-    ensures cols { cols (S.matrix side.now) < 2 ^ 32 }
-{
-    let _sizes = (side.rows(), side.cols());
 }
 
 /// Takes the marks of these rows away.

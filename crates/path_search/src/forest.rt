@@ -33,7 +33,7 @@ pub struct SearchForest {
 }
 
 impl Model for SearchForest {
-    ghost use Rattle.std.specs.Prelude.{length, vec_capacity, ◌≤◌};
+    ghost use Rattle.std.specs.Prelude.{length, vec_capacity, ◌<◌, ◌≤◌, ◌^◌};
     ghost use Rattle.path_search.specs.Forests.{Trees};
 
     ghost Value = { Trees };
@@ -46,7 +46,8 @@ impl Model for SearchForest {
     } };
 
     ghost invariant = { λ f. (f.cols ≤ vec_capacity f.queue)
-        × (length f.marks.items ≤ vec_capacity f.path) };
+        × (length f.marks.items ≤ vec_capacity f.path)
+        × (length f.marks.items < 2 ^ 32) };
 }
 
 impl SearchForest {
@@ -75,6 +76,7 @@ impl SearchForest {
         ensures rows { length self.new.marks ≡ length self.old.marks }
         ensures marks { (r : ℕ) → ¬ IsMarked self.new.marks r }
         ensures queue { self.new.queue ≡ [] }
+        ensures few_rows { length self.new.marks < 2 ^ 32 }
     {
         unmark_all(self.marks.as_mut_slice());
         self.queue.clear();
@@ -149,6 +151,7 @@ impl SearchForest {
         requires matching_cols { (F.seen matching.now).cols ≡ cols (S.matrix side.now) }
         ensures forest { IsForest (S.matrix side.now) (F.seen matching.now).pairs self.new }
         ensures no_path { HaveNoPath (S.matrix side.now) (F.seen matching.now).pairs self.new 0 }
+        ensures few_rows { (S.matrix side.now).rows < 2 ^ 32 }
         ensures few_cols { cols (S.matrix side.now) < 2 ^ 32 }
     {
         self.clear();

@@ -1,12 +1,12 @@
 //! Columns in layers, by how far they are from the unmatched ones.
 
-ghost use Rattle.std.specs.Prelude.{◌≡◌, ◌⊎◌, ◌<◌, ℕ, [], length, slice_index, IfOk, IfSome, IsTrue};
+ghost use Rattle.std.specs.Prelude.{◌≡◌, ◌⊎◌, ◌<◌, ◌^◌, ℕ, [], length, slice_index, IfOk, IfSome, IsTrue};
 ghost use Rattle.bip_defs.specs.Lists.{Among, IsMarked};
 ghost use Rattle.bip_defs.specs.Matrix.{IsEntry, cols};
 ghost use Rattle.bip_graph.specs.Matching.{IsMatchingOf};
 ghost use Rattle.path_search.specs.Layers.{AreLayers};
 
-use crate::columns::{row_at, sizes_fit};
+use crate::columns::row_at;
 use bip_graph::{Matching, Opposite};
 use sp_ids::{Col, Id, OutOfMemory, Row};
 use sp_pattern::Side;
@@ -300,7 +300,7 @@ impl Layers {
 
     /// The next row of a column's list over which a path may go on, to an end or to the next layer.
     /// A row of the list that was passed once is not come to again.
-    pub fn next_row<F: Opposite, S: Side<F>>(
+    pub(crate) fn next_row<F: Opposite, S: Side<F>>(
         &mut self,
         side: &S,
         matching: &Matching,
@@ -309,13 +309,13 @@ impl Layers {
     ) -> Option<Row>
         requires layers { AreLayers (cols (S.matrix side.now)) self.old }
         requires matching { IsMatchingOf (S.matrix side.now) (F.seen matching.now) }
+        requires few_rows { (S.matrix side.now).rows < 2 ^ 32 }
         requires marks { length marks.now ≡ (S.matrix side.now).rows }
         requires col { col < cols (S.matrix side.now) }
         ensures layers { AreLayers (cols (S.matrix side.now)) self.new }
         ensures row { IfSome result
             (λ r. IsEntry (S.matrix side.now) r col × (¬ IsMarked marks.now r)) }
     {
-        sizes_fit::<F, S>(side);
         let rows = side.rows_of(col);
         let number = self.number(col).wrapping_add(1);
         let mut at = self.place(col);

@@ -17,7 +17,7 @@ visit-requires-clause-room g c = λ d pair un. room_more _ _ _ c.args.next.row d
 pub exchange-requires : goal.exchange-requires
 exchange-requires g c =
     let found = visit_finds _ _ _ _ _ _ _ c.requires.growing.forest c.requires.candidate.within (ap (λ (x : Reached). x.root) c.at-column.ensures) c.requires.candidate.entry c.in-None.ensures.none (rw c.if-visit.true at c.visit.ensures) in
-    record { growing = record { few_cols = c.requires.growing.few_cols; matching = c.requires.growing.matching; forest = found.forest }; ends = found.ends }
+    record { growing = record { few_rows = c.requires.growing.few_rows; few_cols = c.requires.growing.few_cols; matching = c.requires.growing.matching; forest = found.forest }; ends = found.ends }
 
 -- the tree of the column is done with
 pub returns-in-Some-clause-grown : goal.returns-in-Some-clause-grown
@@ -38,7 +38,7 @@ returns-then-visit-clause-grown g c =
 pub returns-else-visit-clause-grown : goal.returns-else-visit-clause-grown
 returns-else-visit-clause-grown g c =
     let (forest, extends, follows) = visit_follows _ (g.F.Opposite.seen c.args.matching.now) _ _ c.args.next _ c.requires.growing.matching.matching c.requires.growing.forest c.requires.candidate.within (ap (λ (x : Reached). x.root) c.at-column.ensures) c.requires.candidate.entry c.in-None.ensures.none (rw c.if-visit.false at c.visit.ensures) in
-    record { growing = record { few_cols = c.requires.growing.few_cols; matching = c.requires.growing.matching; forest = forest }; extends = extends; covered = covers_none _ }
+    record { growing = record { few_rows = c.requires.growing.few_rows; few_cols = c.requires.growing.few_cols; matching = c.requires.growing.matching; forest = forest }; extends = extends; covered = covers_none _ }
 
 pub returns-else-visit-clause-follows : goal.returns-else-visit-clause-follows
 returns-else-visit-clause-follows g c = (visit_follows _ (g.F.Opposite.seen c.args.matching.now) _ _ c.args.next _ c.requires.growing.matching.matching c.requires.growing.forest c.requires.candidate.within (ap (λ (x : Reached). x.root) c.at-column.ensures) c.requires.candidate.entry c.in-None.ensures.none (rw c.if-visit.false at c.visit.ensures)).2

@@ -18,7 +18,7 @@ returns-in-Some-clause-progresses g c = inl (refl, λ f. absurd (f.roots_unmatch
 
 pub returns-in_default-clause-grown : goal.returns-in_default-clause-grown
 returns-in_default-clause-grown g c = record {
-  growing = record { few_cols = c.requires.growing.few_cols; matching = c.requires.growing.matching; forest = c.scan-found.ensures.forest };
+  growing = record { few_rows = c.requires.growing.few_rows; few_cols = c.requires.growing.few_cols; matching = c.requires.growing.matching; forest = c.scan-found.ensures.forest };
   extends = spreads_extends _ _ _ c.scan-found.ensures.spreads;
   covered = covers_none _;
 }

@@ -10,7 +10,7 @@ use Rattle.path_search.proofs.layers.Layers.next_row.Goals as goal
 pub overflow_add-at : goal.overflow_add-at
 overflow_add-at g c =
     let short = column_short (g.S.Side.matrix c.args.side.now) (map g.F.Id.number c.rows_of-rows.result.now) c.args.col c.rows_of-rows.ensures.rows in
-    let few = c.sizes_fit.ensures.rows in
+    let few = c.requires.few_rows in
     omega (arith, length-map c.rows_of-rows.result.now g.F.Id.number, c.loop-at-test.true, short, few)
 
 pub leads_on-requires-clause-marks : goal.leads_on-requires-clause-marks
