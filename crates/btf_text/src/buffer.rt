@@ -195,7 +195,7 @@ impl TextBuf {
         self.put_piece(out, b"\n");
     }
 
-    /// Ends the text: hands on what is kept, and tells whether a write has failed since the text
+    /// Ends the text: hands on what is kept, and returns whether a write has failed since the text
     /// began.
     pub fn finish<K: Sink>(&mut self, out: &mut K) -> Result<(), Failed>
         ensures { Ends (seen K.taken K.faults out.old out.new) self.old result }

@@ -28,7 +28,7 @@ impl<'a, K: Sink> Text<'a, K> {
         Text { sink, buf }
     }
 
-    /// Ends the text: hands on what is kept, and tells whether a write has failed since the text
+    /// Ends the text: hands on what is kept, and returns whether a write has failed since the text
     /// began.
     pub(crate) fn finish(self) -> Result<(), Failed>
         ensures { Ends (seen K.taken K.faults self.entry.sink.now self.exit.0.now)

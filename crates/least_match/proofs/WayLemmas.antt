@@ -118,7 +118,7 @@ frees_then_gives a m n o j r max x e rows cols gives size = record {
   at = (gives (r, j)).1 (inl refl);
 }
 
--- a row is given to the column, in place of the row s at a column that isn't below
+-- a row is given to the column, in place of the row s at a column that is not below
 pub swapped : (a : Matrix) (m n : List Place) (j r s x : ℕ) → IsMaximum a m → IsEntry a r j → AreDistinct (rows_of n) → AreDistinct (cols_of n) → Swaps (r, j) s m n → length n ≡ length m → Among (s, x) m → j ≤ x → HasAt a m j r n
 swapped a m n j r s x max e rows cols swaps size p le = record {
   extends = record {

@@ -53,7 +53,8 @@ abbrev pub Enters : ℕ → ℕ → Queue → Queue → Type 0
 Enters c parent old new = (Among c (heads old) × (new ≡ old))
     ⊎ ((¬ Among c (heads old)) × (new ≡ old ++ (c, parent) ∷ []))
 
--- a column before j or of another class is left; another one is added, unless it is there, where the other tree doesn't have it
+-- a column before j or of another class is left; another one is added, unless it is there, where
+-- the other tree does not have it
 abbrev pub Looks : Matrix → List Place → List ℕ → ℕ → ℕ → ℕ → Queue → Queue → Queue → Type 0
 Looks a m classes j c parent old new other = (IsOther classes j c × (new ≡ old))
     ⊎ (IsInTail a classes j c × Among c (cols_of m) × (¬ Among c (heads other))

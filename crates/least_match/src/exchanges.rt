@@ -33,7 +33,7 @@ pub struct Exchanges<'p> {
 impl<'p> Exchanges<'p> {
     /// For a matrix with these parts of its columns. It is ready beside each maximum matching.
     ///
-    /// Answers `OutOfMemory` where the arrays can't be had.
+    /// Returns `OutOfMemory` if it cannot allocate the arrays.
     pub fn new(
         alloc: Global,
         pattern: &'p Pattern,

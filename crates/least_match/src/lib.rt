@@ -36,7 +36,7 @@ use std::alloc::Global;
 /// found a set of columns that no such path leaves, or none enters; from then on this set is a
 /// class of its own, and no search crosses it.
 ///
-/// Answers `OutOfMemory` where 30 bytes a column can't be had, or before that 10 a row and 10 a
+/// Returns `OutOfMemory` if it cannot allocate 30 bytes a column, or before that 10 a row and 10 a
 /// column for two searches. From then on it takes none. Work: a column that has no mate, or has the
 /// least of its rows that are left, costs its entries alone. Searches that fail part the square
 /// part by the set with fewer entries each time, so they look at some e log e entries in all, where
@@ -57,7 +57,7 @@ pub fn least(alloc: Global, pattern: &Pattern, matching: Matching) -> Result<Mat
 /// [`least`], where the coarse parts of the matrix are known: the same matching, and the two
 /// searches for them are not made.
 ///
-/// The parts must be the pattern's. Answers `OutOfMemory` where 30 bytes a column can't be had.
+/// The parts must be the pattern's. Returns `OutOfMemory` if it cannot allocate 30 bytes a column.
 /// Work: as `least` without the two searches.
 pub fn least_by_parts(
     alloc: Global,

@@ -25,8 +25,8 @@ pub enum ColPart {
 
 /// The part of each column, by a maximum matching (Dulmage and Mendelsohn 1958).
 ///
-/// Answers `OutOfMemory` where 9 bytes a row and 9 a column can't be had for two searches, or the
-/// list. Work: each entry is looked at three times at most.
+/// Returns `OutOfMemory` if it cannot allocate 9 bytes a row and 9 a column for two searches, or
+/// the list. Work: each entry is looked at three times at most.
 pub fn parts(
     alloc: Global,
     pattern: &Pattern,
@@ -52,7 +52,7 @@ pub fn parts(
 
 /// The part of each column, from the lists of the parts.
 ///
-/// Answers `OutOfMemory` where the list can't be had. Work: one look at each column.
+/// Returns `OutOfMemory` if it cannot allocate the list. Work: one look at each column.
 pub fn listed_parts(
     alloc: Global,
     pattern: &Pattern,

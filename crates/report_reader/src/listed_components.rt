@@ -107,8 +107,8 @@ impl ComponentList {
 
     /// Appends a component of these rows and columns.
     ///
-    /// Answers `OutOfMemory` where there is not enough memory for it, and then the list stays as it
-    /// is. Work: one copy of both.
+    /// Returns `OutOfMemory` if it cannot allocate it, and then the list stays as it is. Work: one
+    /// copy of both.
     pub fn push(&mut self, rows: &[Row], cols: &[Col]) -> Result<(), OutOfMemory>
         requires rows { length rows.now < 2 ^ 32 }
         requires cols { length cols.now < 2 ^ 32 }
