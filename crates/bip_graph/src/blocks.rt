@@ -114,7 +114,7 @@ impl Blocks {
 
     /// Appends a block of these rows and columns.
     ///
-    /// Answers `OutOfMemory` where there is no room for it, and then the list stays as it is; a
+    /// Returns `OutOfMemory` if there is no room for it, and then the list stays as it is; a
     /// list has no room for 2^32 rows or columns in all. Work: one copy of both.
     pub fn push(&mut self, rows: &[Row], cols: &[Col]) -> Result<(), OutOfMemory>
         ensures ok { OnOk result

@@ -13,9 +13,9 @@ use std::alloc::Global;
 
 /// A maximum matching, from none, by one augmenting path after another, and its witness.
 ///
-/// Answers `OutOfMemory` where the matching, 9 bytes a column and a path or the witness can't be
-/// had. Work: one search for each pair and one that shows that it is maximum, each of which looks
-/// at each column and each entry once at most (Berge 1957).
+/// Returns `OutOfMemory` if it cannot allocate the matching, 9 bytes a column and a path or the
+/// witness. Work: one search for each pair and one that shows that it is maximum, each of which
+/// looks at each column and each entry once at most (Berge 1957).
 pub fn plain(alloc: Global, pattern: &Pattern) -> Result<(Matching, Vec<Col>), OutOfMemory>
     ensures witness { IfOk result (λ o. IsWitness pattern.now o.0.pairs o.1.items) }
     ensures maximum { IfOk result (λ o. IsMaximumOf pattern.now o.0) }

@@ -17,7 +17,7 @@ use sp_ids::OutOfMemory;
 /// then. An exchange makes the processor wait for what it has begun to load: so many looks first
 /// and then many claims are faster than each claim after its look.
 ///
-/// Afterwards it knows a holder of each row, or a leaf of its root. Answers `OutOfMemory` where one
+/// Afterwards it knows a holder of each row, or a leaf of its root. Returns `OutOfMemory` if one
 /// of its fresh lists cannot grow; what is listed then stands. Work: one look and two exchanges at
 /// most for each.
 pub fn claim_all(

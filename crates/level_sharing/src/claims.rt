@@ -15,7 +15,7 @@ use sp_ids::OutOfMemory;
 /// without a base mate, it wins the column's root for it. Tells whether it knows then that the root
 /// has a leaf.
 ///
-/// In either case it knows a holder of the row then. Answers `OutOfMemory` where one of its fresh
+/// In either case it knows a holder of the row then. Returns `OutOfMemory` if one of its fresh
 /// lists cannot grow; what is listed then stands. Work: two exchanges at most.
 pub fn claim_row(
     board: &ClaimBoard,

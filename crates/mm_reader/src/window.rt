@@ -85,7 +85,7 @@ fn read_some<S: Source>(source: &mut S, buffer: &mut [u8], most: usize) -> Resul
 }
 
 /// Reads into the empty window, at most as many bytes as may be used, or one byte where none may be
-/// used, and tells how many bytes came.
+/// used, and returns how many bytes came.
 pub fn refill<S: Source>(window: &mut Window, source: &mut S) -> Result<usize, Failed>
     requires window { IsWindow window.old }
     ensures window { IsWindow window.new }

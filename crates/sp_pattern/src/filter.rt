@@ -31,8 +31,8 @@ pub trait Filter {
 impl Pattern {
     /// The pattern of the entries that the filter keeps.
     ///
-    /// The filter must be of this pattern's matrix. Answers `OutOfMemory` where there is no memory
-    /// for the pattern, in which the list by columns has room for all entries, or for what
+    /// The filter must be of this pattern's matrix. Returns `OutOfMemory` if it cannot allocate the
+    /// pattern, in which the list by columns has room for all entries, or what
     /// [`Pattern::build`] takes while the second order is derived from the first. Work: one look at
     /// each row and column, what the filter does with each column's entries, and work linear in the
     /// entries that are kept.

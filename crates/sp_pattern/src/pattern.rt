@@ -65,8 +65,8 @@ impl Pattern {
     /// most 8 bytes an entry, those that are given several times and the mirror images of a
     /// symmetric file counted too: while they are sorted, or while the second order is derived from
     /// the first, and then 4 bytes more for each 4,096 rows or columns, and for a symmetric file 8
-    /// for each row. Answers `OutOfMemory` where there is no memory for that or for the pattern.
-    /// Work: linear in the entries, the rows and the columns, and the sort.
+    /// for each row. Returns `OutOfMemory` if it cannot allocate that or the pattern. Work:
+    /// linear in the entries, the rows and the columns, and the sort.
     pub fn build<R: Threads + Sync>(
         rt: &R,
         alloc: Global,

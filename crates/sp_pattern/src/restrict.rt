@@ -64,9 +64,9 @@ impl Pattern {
     /// The pattern of the places whose values do not add up to 0, of a file of the field integer.
     ///
     /// Values are added up in 128 bits, in which no sum wraps. Beside the pattern it takes what
-    /// [`Pattern::build`] takes, the pattern of all places and 16 bytes for each of these. Answers
-    /// `OutOfMemory` where there is no memory for that. Work: that of `build`, a search in its
-    /// column for each entry of the file, and three looks at each place.
+    /// [`Pattern::build`] takes, the pattern of all places and 16 bytes for each of these. Returns
+    /// `OutOfMemory` if it cannot allocate that. Work: that of `build`, a search in its column for
+    /// each entry of the file, and three looks at each place.
     pub fn build_nonzero<R: Threads + Sync>(
         rt: &R,
         alloc: Global,
@@ -137,9 +137,9 @@ impl Pattern {
 impl<'p> Weights<'p> {
     /// The pattern of the entries whose weight is greater than `least`.
     ///
-    /// Answers `OutOfMemory` where there is no memory for the pattern, in which the list by columns
-    /// has room for all entries, or for what [`Pattern::build`] takes while the second order is
-    /// derived from the first. Work: linear in the entries, the rows and the columns.
+    /// Returns `OutOfMemory` if it cannot allocate the pattern, in which the list by columns has
+    /// room for all entries, or what [`Pattern::build`] takes while the second order is derived
+    /// from the first. Work: linear in the entries, the rows and the columns.
     pub fn above(&self, alloc: Global, least: u64) -> Result<Pattern, OutOfMemory>
         ensures { IfOk result (λ b. b ≡ above self.now.matrix (weight_at self.now) least) }
     {

@@ -88,7 +88,7 @@ impl<'p> Weights<'p> {
     ghost use Rattle.sp_pattern.specs.WeightErrors.{IsWeightError};
 
     /// The weights of a pattern's entries, by a file of the field integer. An entry that the file
-    /// doesn't give weighs 0; a place that is no entry is passed over.
+    /// does not give weighs 0; a place that is no entry is passed over.
     ///
     /// Answers `SumLimit` exactly where the sum of some entry's values passes the limit in
     /// magnitude, and `OutOfMemory` where there is no memory for the weights, or for 16 bytes an

@@ -16,7 +16,7 @@ pub trait Source {
     /// A count of failures. It never falls, and one failure may raise it by more than one.
     ghost faults: { Self → ℕ };
 
-    /// Moves bytes from the start of what is left into the buffer, and tells how many. 0 for a
+    /// Moves bytes from the start of what is left into the buffer, and returns how many. 0 for a
     /// buffer that is not empty comes only at the end. `Failed` comes only where the count of
     /// faults rose, and then nothing was moved. At `Ok` the count stays as it was. The count of a
     /// source that does not tell its bytes may also stand at the last value of a u64 at `Failed`.
@@ -37,9 +37,9 @@ pub trait Sink {
     /// A count of failures. It never falls, and one failure may raise it by more than one.
     ghost faults: { Self → ℕ };
 
-    /// Takes bytes from the start of the piece, and tells how many: at least one of a piece that is
-    /// not empty. `Failed` comes only where the count of faults rose, or stands at the last value of
-    /// a u64, and then nothing was taken. At `Ok` the count stays as it was.
+    /// Takes bytes from the start of the piece, and returns how many: at least one of a piece that
+    /// is not empty. `Failed` comes only where the count of faults rose, or stands at the last
+    /// value of a u64, and then nothing was taken. At `Ok` the count stays as it was.
     fn write(&mut self, piece: &[u8]) -> Result<usize, Failed>
         ensures bound { IfOk result (λ k. k ≤ length piece.now) }
         ensures some { IfOk result (λ k. 0 < length piece.now → 0 < k) }

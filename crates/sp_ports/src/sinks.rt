@@ -45,7 +45,7 @@ impl Model for MemSink {
 impl MemSink {
     /// A sink with room for `room` bytes that takes at most `piece` of them in a call. Its calls of
     /// `write` and `flush` are numbered together from 0, and those whose numbers are in `failing`
-    /// fail. `piece` must be at least 1. Answers `OutOfMemory` where the room can't be had now.
+    /// fail. `piece` must be at least 1. Returns `OutOfMemory` if it cannot allocate that room now.
     pub fn new(
         alloc: Global,
         room: usize,
@@ -172,7 +172,7 @@ impl Model for SteadySink {
 
 impl SteadySink {
     /// A sink with room for `room` bytes that takes at most `piece` of them in a call, at least 1.
-    /// Answers `OutOfMemory` where the room can't be had now.
+    /// Returns `OutOfMemory` if it cannot allocate that room now.
     pub fn new(alloc: Global, room: usize, piece: usize) -> Result<SteadySink, OutOfMemory>
         requires { 0 < piece }
         ensures { IfOk result

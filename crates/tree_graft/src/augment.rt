@@ -19,8 +19,8 @@ use tree_augment::{augment_under, closed_mates_are_exchanged, open};
 
 /// Exchanges the path of each root with a leaf, by workers at once, and then keeps the trees
 /// without a leaf, where fewer than five rows are freed for each column in them, or frees all rows.
-/// Gives the number of these paths. Answers `OutOfMemory` where a board of mates can't be had; the
-/// forest is then as it was.
+/// Gives the number of these paths. Returns `OutOfMemory` if it cannot allocate a board of mates;
+/// the forest is then as it was.
 pub fn augment<R: Threads + Sync, G: Gate>(
     rt: &R,
     alloc: Global,

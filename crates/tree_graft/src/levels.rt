@@ -46,9 +46,9 @@ pub fn can_grow(pattern: &Pattern, matching: &Matching) -> bool
 /// Lets the trees grow until each has a leaf or has nothing left to claim, and closes the board on
 /// which the workers did so.
 ///
-/// Answers `OutOfMemory` where the board, the lists of columns and rows or a worker's list can't be
-/// had; what was claimed and won until then stands in the forest. The lists are taken once, with
-/// room for all columns and all rows.
+/// Returns `OutOfMemory` if it cannot allocate the board, the lists of columns and rows or a
+/// worker's list; what was claimed and won until then stands in the forest. The lists are taken
+/// once, with room for all columns and all rows.
 pub fn grow<R: Threads + Sync, G: Gate>(
     rt: &R,
     alloc: Global,

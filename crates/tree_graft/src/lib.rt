@@ -45,8 +45,8 @@ pub use switches::{goes_top_down, keeps_trees};
 /// the claims stay; after any other those of trees without a leaf do where `keeps_trees` says so,
 /// and else none.
 ///
-/// Answers `OutOfMemory` where its boards and lists can't be had, at most 28 bytes a row and 40 a
-/// column at a time, or the workers' lists, 8 bytes for each claim and win of a level; the forest
+/// Returns `OutOfMemory` if it cannot allocate its boards and lists, at most 28 bytes a row and 40
+/// a column at a time, or the workers' lists, 8 bytes for each claim and win of a level; the forest
 /// is then one that legal events lead to. The claim board has 8 bytes a row and a column until the
 /// last level is done, beside 4 of each for the free rows and the frontier, and 16 more of each
 /// while it is opened. After it the flip board has 8 bytes a row and 16 a column until the paths

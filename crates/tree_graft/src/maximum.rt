@@ -34,11 +34,11 @@ use std::thread::Threads;
 /// pattern they are depth-first, go on as long as each matches at least half of what is left, and
 /// are followed by phases by workers, until one gives 0.
 ///
-/// Answers `OutOfMemory` where there is no memory for the forest and a phase, at most 57 bytes a
-/// row and 58 a column, or for the workers' lists; the matching is dropped then. The serial phases
-/// take at most 30 bytes a row or column, of which one stays in use while the forest is made. Where
-/// each column that has an entry is matched it takes no memory. Work: phases, of which all but the
-/// last by each kind of worker make the matching larger.
+/// Returns `OutOfMemory` if it cannot allocate the forest and a phase, at most 57 bytes a row and
+/// 58 a column, or the workers' lists; the matching is dropped then. The serial phases take at
+/// most 30 bytes a row or column, of which one stays in use while the forest is made. Where each
+/// column that has an entry is matched it takes no memory. Work: phases, of which all but the last
+/// by each kind of worker make the matching larger.
 pub fn complete<R: Threads + Sync, G: Gate>(
     rt: &R,
     alloc: Global,
