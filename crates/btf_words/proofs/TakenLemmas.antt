@@ -1,8 +1,8 @@
 -- Words that are taken name a job.
 use Rattle.std.proofs.Common.{◌≡◌, Bool, true, false, List, [], ◌∷◌, Option, Some, None, ap, refl, sym, ◌∙◌, subst, inl, inr}
-use Rattle.std.specs.Prelude.{is_some, find, cond, ⊤, MatchOption, option_and_then, option_map, Result, Ok, Err, IfOk, IsErrOf, is_ok}
-use Rattle.std.specs.Result.{result_ok}
+use Rattle.std.specs.Prelude.{is_some, find, cond, ⊤, MatchOption, option_and_then, option_map}
 use Rattle.std.specs.List.{AllByRecursion}
+use Rattle.std.proofs.lemmas.Option.{none-some}
 use Rattle.clap.specs.Words.{App, Row, Shape, Text, built, fault_of, subcommand_of}
 use Rattle.clap.specs.Walk.{Held, answers_to, finished, nothing_held, settled, stop_after, walk, walk_from}
 use Rattle.clap.specs.Walk.{Names as Labels}
@@ -17,8 +17,6 @@ use Rattle.btf_words.specs.Table.{IsBtf, btf}
 use Rattle.btf_words.proofs.EngineNames.{read_alike}
 use Rattle.btf_words.specs.Words.{AreTaken, job_from, job_of}
 use Rattle.btf_words.specs.declared.jobs.Job.{Job}
-use Rattle.btf_words.specs.declared.jobs.WordsError.{WordsError}
-use Rattle.btf_words.specs.declared.jobs.WordsError.TheVariants.{Usage}
 
 later_empty : (a b : Kinds) → or_else a b ≡ [] → b ≡ []
 later_empty [] b h = h
@@ -100,39 +98,21 @@ line_command app words line = ap (λ (a : App). subcommand_of a words) line.2 �
 line_is_free : (app : App) → IsBtf app → is_simple_and_free app ≡ true
 line_is_free app line = ap is_simple_and_free line.2
 
--- the matches of words with which clap finds no fault, and the job of the command that they entered
-pub record HasRead (app : App) (words : List Text) (m : ArgMatches) (o : Option Job) : Type 0 where
-  pub line : IsBtf app
-  pub no_fault : is_simple_and_free app ≡ true → fault_of app words ≡ []
-  pub matches : HasMatchesOf app words m
-  pub job : o ≡ option_and_then job_from (subcommand_rows_of m)
-
-read_taken : (app : App) (words : List Text) (m : ArgMatches) (o : Option Job) → HasRead app words m o → AreTaken words
+-- words with which clap finds no fault are taken
+pub are_taken : (app : App) (words : List Text) → IsBtf app → (is_simple_and_free app ≡ true → fault_of app words ≡ []) → AreTaken words
 unfolding AreTaken
-read_taken app words m o h = sym (line_fault app words h.line) ∙ h.no_fault (line_is_free app h.line)
+are_taken app words line no_fault = sym (line_fault app words line) ∙ no_fault (line_is_free app line)
 
-read_job : (app : App) (words : List Text) (m : ArgMatches) (o : Option Job) → HasRead app words m o → o ≡ job_of words
+-- the job of the command that they entered is theirs
+pub is_job : (app : App) (words : List Text) (m : ArgMatches) (o : Option Job) → IsBtf app → HasMatchesOf app words m
+    → o ≡ option_and_then job_from (subcommand_rows_of m) → o ≡ job_of words
 unfolding job_of
-read_job app words m o h =
-    h.job ∙ ap (option_and_then job_from) ((h.matches (ap is_simple h.line.2)).1 ∙ line_command app words h.line)
+is_job app words m o line matches is =
+    is ∙ ap (option_and_then job_from) ((matches (ap is_simple line.2)).1 ∙ line_command app words line)
 
-pub taken_by : (app : App) (words : List Text) (m : ArgMatches) (o : Option Job) (r : Result Job WordsError) → HasRead app words m o
-    → IfOk r (λ job. AreTaken words)
-taken_by app words m o (Ok job) h = read_taken app words m o h
-taken_by app words m o (Err e) h = tt
-
-pub job_by : (app : App) (words : List Text) (m : ArgMatches) (o : Option Job) (r : Result Job WordsError) → HasRead app words m o
-    → o ≡ result_ok r → IfOk r (λ job. job_of words ≡ Some job)
-job_by app words m o (Ok job) h same = sym (read_job app words m o h) ∙ same
-job_by app words m o (Err e) h same = tt
-
-pub never_refused : (app : App) (words : List Text) (m : ArgMatches) (o : Option Job) (r : Result Job WordsError) → HasRead app words m o
-    → is_ok r ≡ is_some o → IsErrOf r Usage → ⊥
-never_refused app words m o (Ok job) h same bad = cc
-never_refused app words m o (Err e) h same bad =
-    let named = taken_names words (read_taken app words m o h) in
-    let there : false ≡ true = same ∙ ap is_some (read_job app words m o h ∙ named.1) in
-    cc
+-- words that are taken have one
+pub has_one : (words : List Text) (o : Option Job) → AreTaken words → o ≡ job_of words → o ≡ None → ⊥
+has_one words o taken is none = let named = taken_names words taken in none-some named.0 (sym none ∙ is ∙ named.1)
 
 -- words that clap refuses for another cause than memory are not taken
 pub refused : (app : App) (words : List Text) (e : Error) → IsBtf app

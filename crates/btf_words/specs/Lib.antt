@@ -1,4 +1,5 @@
 pub mod BatchWords
+pub mod Choices
 pub mod Table
 pub mod UsageLine
 pub mod Words

@@ -55,11 +55,15 @@ engine_rule names = record (option_rule (codes "engine")) {
   defaults = default_engine ∷ [];
 }
 
--- `--workers W`: 4 where it is not given
+-- the number of workers where none is given
+abbrev pub default_workers : Text
+default_workers = codes "4"
+
+-- `--workers W`
 abbrev pub workers_rule : Rule
 workers_rule = record (option_rule (codes "workers")) {
   parser = Some (vp.Unsigned 1 max_workers);
-  defaults = codes "4" ∷ [];
+  defaults = default_workers ∷ [];
 }
 
 abbrev pub order_rule : Rule
@@ -72,11 +76,15 @@ pairs_rule = flag_rule (codes "pairs")
 abbrev pub drop_zeros_rule : Rule
 drop_zeros_rule = flag_rule (codes "drop-zeros")
 
+-- the version of a report where none is given
+abbrev pub default_version : Text
+default_version = codes "2"
+
 -- `--report V`
 abbrev pub report_rule : Rule
 report_rule = record (option_rule (codes "report")) {
   parser = Some (vp.Unsigned 1 latest_version);
-  defaults = codes "2" ∷ [];
+  defaults = default_version ∷ [];
 }
 
 -- `--least`

@@ -5,9 +5,9 @@ ghost use Rattle.clap.specs.Words.{app_of};
 ghost use Rattle.btf_words.specs.BatchWords.{AreTaken, IsWithinLimits, btf_batch, workers_of};
 ghost use Rattle.btf_words.specs.UsageLine.{batch_usage_line as line_of_usage};
 
-use crate::WordsError;
 use crate::options::workers;
 use crate::reading::number_of;
+use crate::{WordsError, Workers};
 use clap::Command;
 use clap::error::ErrorKind;
 use sp_ids::MAX_WORKERS;
@@ -20,7 +20,7 @@ use std::alloc::{AllocError, Global};
 /// is. Words that ask for help or the version are not taken. The number is read as clap's parser of
 /// numbers reads it, so `007` and `+7` are 7. It takes memory for the command line and for what is
 /// found in the words, and `OutOfMemory` tells that there was not enough.
-pub fn read_batch_words(alloc: Global, words: &[String]) -> Result<u32, WordsError>
+pub fn read_batch_words(alloc: Global, words: &[String]) -> Result<Workers, WordsError>
     ensures taken { IfOk result (λ workers. AreTaken (map string_bytes words.now)) }
     ensures workers { IfOk result (λ workers. workers ≡ workers_of (map string_bytes words.now)) }
     ensures limits { IfOk result IsWithinLimits }
@@ -32,7 +32,7 @@ pub fn read_batch_words(alloc: Global, words: &[String]) -> Result<u32, WordsErr
     match program.try_get_matches_from(words) {
         Ok(matches) => {
             let workers = number_of(&matches, "workers", 1, u64::from(MAX_WORKERS));
-            Ok(workers as u32)
+            Ok(Workers::new(workers as u32))
         }
         Err(error) => match error.kind() {
             ErrorKind::OutOfMemory => Err(WordsError::OutOfMemory),

@@ -1,5 +1,10 @@
 //! The jobs that the words of a command line name.
 
+ghost use Rattle.std.specs.Prelude.{◌≡◌};
+ghost use Rattle.btf_words.specs.Choices.{are_least, are_listed, choice_with};
+
+use crate::Workers;
+
 /// How a maximum matching is searched for.
 #[derive(Clone, Copy, Debug, PartialEq, Eq)]
 pub enum Engine {
@@ -15,26 +20,87 @@ pub enum Engine {
     Graft,
 }
 
-/// Which engine searches for a maximum matching, and with how many workers.
+/// Which engine searches for a maximum matching, and with how many workers where more than one can.
 #[derive(Clone, Copy, Debug, PartialEq, Eq)]
-pub struct EngineChoice {
-    /// How it is searched for.
-    pub engine: Engine,
-    /// How many workers search at once, where the engine is `Graft`: 1 to 64.
-    pub workers: u32,
+pub enum EngineChoice {
+    /// `Engine::Plain`.
+    Plain,
+    /// `Engine::Mc21`.
+    Mc21,
+    /// `Engine::Pf`.
+    Pf,
+    /// `Engine::Graft`.
+    Graft {
+        /// How many workers search at once.
+        workers: Workers,
+    },
+}
+
+impl EngineChoice {
+    /// This engine, with so many workers where more than one can search.
+    pub fn with(engine: Engine, workers: Workers) -> EngineChoice
+        ensures { result ≡ choice_with engine workers }
+    {
+        match engine {
+            Engine::Plain => EngineChoice::Plain,
+            Engine::Mc21 => EngineChoice::Mc21,
+            Engine::Pf => EngineChoice::Pf,
+            Engine::Graft => EngineChoice::Graft { workers },
+        }
+    }
+}
+
+/// The version of a report's text.
+#[derive(Clone, Copy, Debug, PartialEq, Eq)]
+pub enum Version {
+    /// Version 1, which has no connected components.
+    One,
+    /// Version 2, which has those of the horizontal and of the vertical part.
+    Two,
+}
+
+/// Which pairs a report lists.
+#[derive(Clone, Copy, Debug, PartialEq, Eq)]
+pub enum ListedPairs {
+    /// It lists none.
+    None,
+    /// Those of some maximum matching.
+    Any,
+    /// Those of the least maximum matching: the same for every engine.
+    Least,
+}
+
+impl ListedPairs {
+    /// Whether pairs are listed.
+    pub fn are_listed(self) -> bool
+        ensures { result ≡ are_listed self }
+    {
+        match self {
+            ListedPairs::None => false,
+            ListedPairs::Any | ListedPairs::Least => true,
+        }
+    }
+
+    /// Whether they are those of the least maximum matching.
+    pub fn are_least(self) -> bool
+        ensures { result ≡ are_least self }
+    {
+        match self {
+            ListedPairs::None | ListedPairs::Any => false,
+            ListedPairs::Least => true,
+        }
+    }
 }
 
 /// What a report is to have.
 #[derive(Clone, Copy, Debug, PartialEq, Eq)]
 pub struct ReportOptions {
-    /// The version of its text: 1 or 2.
-    pub version: u32,
+    /// The version of its text.
+    pub version: Version,
     /// Whether the two orders are written.
     pub order: bool,
-    /// Whether the pairs of a maximum matching are written.
-    pub pairs: bool,
-    /// Whether they are written, and are those of the least one: the same for every engine.
-    pub least: bool,
+    /// Which pairs are written.
+    pub pairs: ListedPairs,
 }
 
 /// What the program is asked to do. With `drop_zeros` a place of an integer file whose values add
@@ -48,7 +114,7 @@ pub enum Job {
     },
     /// The whole structural analysis.
     Analyse {
-        /// Which engine searches, and with how many workers.
+        /// Which engine searches.
         choice: EngineChoice,
         /// What the report has.
         report: ReportOptions,
@@ -71,7 +137,7 @@ pub enum Job {
         size: u32,
         /// The number that it is made from.
         seed: u64,
-        /// Which engine searches, and with how many workers.
+        /// Which engine searches.
         choice: EngineChoice,
     },
     /// The ranks and reports of a matrix under the edits that follow it.

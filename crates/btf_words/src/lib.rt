@@ -12,8 +12,10 @@ mod jobs;
 mod options;
 mod reading;
 mod usage;
+mod workers;
 
 pub use batch::{batch_usage_line, read_batch_words};
-pub use jobs::{Engine, EngineChoice, Job, ReportOptions, WordsError};
+pub use jobs::{Engine, EngineChoice, Job, ListedPairs, ReportOptions, Version, WordsError};
 pub use reading::{names_lie_anywhere, read_words, taken_words_name_a_job};
 pub use usage::usage_line;
+pub use workers::Workers;

@@ -10,7 +10,16 @@ use sp_ids::{MAX_LOAD_SEED, MAX_LOAD_SIZE, MAX_WORKERS};
 use std::alloc::Global;
 
 /// The engine where none is named.
-pub(crate) const DEFAULT_ENGINE: &str = "graft";
+const DEFAULT_ENGINE: &str = "graft";
+
+/// The number of workers where none is given.
+const DEFAULT_WORKERS: &str = "4";
+
+/// The latest version of a report.
+pub(crate) const LATEST_VERSION: u64 = 2;
+
+/// The version of a report where none is given.
+const DEFAULT_VERSION: &str = "2";
 
 /// `--engine E`, where E is one of these names: the default where it is not given.
 pub(crate) fn engine<'a>(alloc: Global, engines: &'a [&'a str]) -> Arg<'a>
@@ -24,7 +33,7 @@ pub(crate) fn engine<'a>(alloc: Global, engines: &'a [&'a str]) -> Arg<'a>
         .default_value(DEFAULT_ENGINE)
 }
 
-/// `--workers W`: 4 where it is not given.
+/// `--workers W`: the default where it is not given.
 pub(crate) fn workers<'a>(alloc: Global) -> Arg<'a>
     ensures rule { rule_of result ≡ workers_rule }
     ensures local { result.global ≡ false }
@@ -33,7 +42,7 @@ pub(crate) fn workers<'a>(alloc: Global) -> Arg<'a>
         .long("workers")
         .action(ArgAction::Set)
         .value_parser(ValueParser::unsigned(1, u64::from(MAX_WORKERS)))
-        .default_value("4")
+        .default_value(DEFAULT_WORKERS)
 }
 
 /// `--order`.
@@ -60,7 +69,7 @@ pub(crate) fn drop_zeros<'a>(alloc: Global) -> Arg<'a>
     flag(alloc, "drop-zeros")
 }
 
-/// `--report V`: 2 where it is not given.
+/// `--report V`: the default where it is not given.
 pub(crate) fn report<'a>(alloc: Global) -> Arg<'a>
     ensures rule { rule_of result ≡ report_rule }
     ensures local { result.global ≡ false }
@@ -68,8 +77,8 @@ pub(crate) fn report<'a>(alloc: Global) -> Arg<'a>
     Arg::new(alloc, "report")
         .long("report")
         .action(ArgAction::Set)
-        .value_parser(ValueParser::unsigned(1, 2))
-        .default_value("2")
+        .value_parser(ValueParser::unsigned(1, LATEST_VERSION))
+        .default_value(DEFAULT_VERSION)
 }
 
 /// `--least`.

@@ -4,16 +4,23 @@ ghost use Rattle.std.specs.Prelude.{◌≡◌, ◌≤◌, List, IfOk, IfSome, Is
 ghost use Rattle.clap.specs.Words.{Text, first_of, found_of, rows_of, subcommand_rows_of};
 ghost use Rattle.sp_ids.specs.Limits.{max_load_size};
 ghost use Rattle.btf_words.specs.Table.{Names, engine_names, texts_of};
-ghost use Rattle.btf_words.specs.Words.{AreTaken, HasWorkers, IsWithinLimits, ReadsAlike, engine_in, engine_named as engine_of_name, drops_zeros, is_given, IsVersion, job_from, job_of, number_in, number_within, report_in, choice_in, seed_in, size_in};
+ghost use Rattle.btf_words.specs.Choices.{HasWorkers};
+ghost use Rattle.btf_words.specs.Words.{AreTaken, IsWithinLimits, ReadsAlike, engine_in, engine_named as engine_of_name, drops_zeros, is_given, job_from, job_of, number_in, number_within as number_in_text, pairs_in, report_in, version_in, choice_in, seed_in, size_in};
 ghost use Rattle.btf_words.specs.declared.jobs.Job.{Job as JobValue};
 
 use crate::commands::command_line;
-use crate::options::DEFAULT_ENGINE;
-use crate::{Engine, EngineChoice, Job, ReportOptions, WordsError};
+use crate::options::LATEST_VERSION;
+use crate::{Engine, EngineChoice, Job, ListedPairs, ReportOptions, Version, WordsError, Workers};
 use clap::ArgMatches;
 use clap::error::ErrorKind;
 use sp_ids::{MAX_LOAD_SEED, MAX_LOAD_SIZE, MAX_WORKERS};
 use std::alloc::Global;
+
+/// The engine where none is named.
+const DEFAULT_ENGINE: Engine = Engine::Graft;
+
+/// The value of a flag that is among the words.
+const GIVEN: &str = "true";
 
 /// The job that the words after the program's name name.
 ///
@@ -31,7 +38,10 @@ pub fn read_words(alloc: Global, words: &[String]) -> Result<Job, WordsError>
         return Err(WordsError::OutOfMemory);
     };
     match program.try_get_matches_from(words) {
-        Ok(matches) => job_in(&matches).ok_or(WordsError::Usage),
+        Ok(matches) => match job_in(&matches) {
+            Some(job) => Ok(job),
+            None => Err(WordsError::Usage),
+        },
         Err(error) => match error.kind() {
             ErrorKind::OutOfMemory => Err(WordsError::OutOfMemory),
             _ => Err(WordsError::Usage),
@@ -103,21 +113,39 @@ fn choice_of(options: &ArgMatches<'_>) -> EngineChoice
     ensures choice { result ≡ choice_in (rows_of (found_of options.now)) }
     ensures workers { HasWorkers result }
 {
-    EngineChoice {
-        engine: engine_of(options),
-        workers: number_of(options, "workers", 1, u64::from(MAX_WORKERS)) as u32,
-    }
+    let workers = number_of(options, "workers", 1, u64::from(MAX_WORKERS)) as u32;
+    EngineChoice::with(engine_of(options), Workers::new(workers))
 }
 
 fn report_of(options: &ArgMatches<'_>) -> ReportOptions
-    ensures report { result ≡ report_in (rows_of (found_of options.now)) }
-    ensures version { IsVersion result.version }
+    ensures { result ≡ report_in (rows_of (found_of options.now)) }
 {
     ReportOptions {
-        version: number_of(options, "report", 1, 2) as u32,
+        version: version_of(options),
         order: flag_of(options, "order"),
-        pairs: flag_of(options, "pairs"),
-        least: flag_of(options, "least"),
+        pairs: pairs_of(options),
+    }
+}
+
+fn version_of(options: &ArgMatches<'_>) -> Version
+    ensures { result ≡ version_in (rows_of (found_of options.now)) }
+{
+    if number_of(options, "report", 1, LATEST_VERSION) == 1 {
+        Version::One
+    } else {
+        Version::Two
+    }
+}
+
+fn pairs_of(options: &ArgMatches<'_>) -> ListedPairs
+    ensures { result ≡ pairs_in (rows_of (found_of options.now)) }
+{
+    if flag_of(options, "least") {
+        ListedPairs::Least
+    } else if flag_of(options, "pairs") {
+        ListedPairs::Any
+    } else {
+        ListedPairs::None
     }
 }
 
@@ -134,31 +162,40 @@ fn value_of<'a>(options: &ArgMatches<'a>, name: &str) -> Option<&'a str>
     options.get_str(name)
 }
 
+/// The engine that is given. The command line takes no name but an engine's, and has a default
+/// where none is given.
 fn engine_of(options: &ArgMatches<'_>) -> Engine
     ensures { result ≡ engine_in (rows_of (found_of options.now)) }
 {
-    engine_named(value_of(options, "engine").unwrap_or(DEFAULT_ENGINE))
+    let Some(name) = value_of(options, "engine") else {
+        return DEFAULT_ENGINE;
+    };
+    engine_named(name).unwrap_or(DEFAULT_ENGINE)
 }
 
-fn engine_named(name: &str) -> Engine
+/// The engine of a name.
+fn engine_named(name: &str) -> Option<Engine>
     ensures { result ≡ engine_of_name name.now }
 {
     if name == "plain" {
-        Engine::Plain
+        Some(Engine::Plain)
     } else if name == "mc21" {
-        Engine::Mc21
+        Some(Engine::Mc21)
     } else if name == "pf" {
-        Engine::Pf
+        Some(Engine::Pf)
+    } else if name == "graft" {
+        Some(Engine::Graft)
     } else {
-        Engine::Graft
+        None
     }
 }
 
+/// Whether a flag is among the words.
 fn flag_of(options: &ArgMatches<'_>, name: &str) -> bool
     ensures { result ≡ is_given name.now (rows_of (found_of options.now)) }
 {
     match value_of(options, name) {
-        Some(value) => value == "true",
+        Some(value) => value == GIVEN,
         None => false,
     }
 }
@@ -177,32 +214,32 @@ fn seed_of(options: &ArgMatches<'_>) -> u64
     number_of(options, "seed", 0, MAX_LOAD_SEED)
 }
 
-/// The number of an option within its bounds. An option that need not be given has its default as
-/// its value where it is not.
+/// The number of an option within its bounds. The command line takes no other text, and an option
+/// that need not be given has a default; of a text that is no such number it would be the least.
 pub(crate) fn number_of(options: &ArgMatches<'_>, name: &str, low: u64, high: u64) -> u64
     requires { low ≤ high }
     ensures number { result ≡ number_in low high name.now (rows_of (found_of options.now)) }
     ensures range { (low ≤ result) × (result ≤ high) }
 {
-    match value_of(options, name) {
-        Some(text) => bounded_number(text, low, high),
-        None => low,
-    }
+    let Some(text) = value_of(options, name) else {
+        return low;
+    };
+    number_within(text, low, high).unwrap_or(low)
 }
 
-fn bounded_number(text: &str, low: u64, high: u64) -> u64
-    requires { low ≤ high }
-    ensures number { result ≡ number_within low high text.now }
-    ensures range { (low ≤ result) × (result ≤ high) }
+/// The number that a text spells, where it is one within the bounds.
+fn number_within(text: &str, low: u64, high: u64) -> Option<u64>
+    ensures number { result ≡ number_in_text low high text.now }
+    ensures range { IfSome result (λ number. (low ≤ number) × (number ≤ high)) }
 {
     match text.parse::<u64>() {
         Ok(number) => {
             if low <= number && number <= high {
-                number
+                Some(number)
             } else {
-                low
+                None
             }
         }
-        Err(_) => low,
+        Err(_) => None,
     }
 }

@@ -43,7 +43,10 @@ static OTHER_WORDS: [&str; 22] = [
 
 /// Whether words are read as this.
 fn are_read(alloc: Global, words: &[String], wanted: Result<u32, WordsError>) -> bool {
-    read_batch_words(alloc, words) == wanted
+    match read_batch_words(alloc, words) {
+        Ok(workers) => wanted == Ok(workers.number()),
+        Err(error) => wanted == Err(error),
+    }
 }
 
 /// Whether the words of a line are.

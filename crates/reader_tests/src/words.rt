@@ -1,256 +1,376 @@
 //! The words of `btf`: which are taken, and the jobs that they name.
 
-use btf_words::{Engine, EngineChoice, Job, ReportOptions, WordsError, read_words};
+use btf_words::{
+    Engine, EngineChoice, Job, ListedPairs, ReportOptions, Version, WordsError, Workers, read_words,
+};
+use sp_ids::MAX_WORKERS;
 use std::alloc::{AllocError, Global};
+
+/// A job as the table below has it: with a number of workers beside every engine.
+enum Named {
+    Rank {
+        drop_zeros: bool,
+    },
+    Analyse {
+        engine: Engine,
+        workers: u32,
+        report: ReportOptions,
+        drop_zeros: bool,
+    },
+    Diagonal {
+        drop_zeros: bool,
+    },
+    Check {
+        drop_zeros: bool,
+    },
+    Load {
+        size: u32,
+        seed: u64,
+        engine: Engine,
+        workers: u32,
+    },
+    Edit,
+    Bottleneck {
+        drop_zeros: bool,
+    },
+}
+
+impl Named {
+    /// The job, where the number of workers is within its limits.
+    fn job(&self) -> Option<Job> {
+        Some(match *self {
+            Named::Rank { drop_zeros } => Job::Rank { drop_zeros },
+            Named::Analyse {
+                engine,
+                workers,
+                report,
+                drop_zeros,
+            } => Job::Analyse {
+                choice: choice(engine, workers)?,
+                report,
+                drop_zeros,
+            },
+            Named::Diagonal { drop_zeros } => Job::Diagonal { drop_zeros },
+            Named::Check { drop_zeros } => Job::Check { drop_zeros },
+            Named::Load {
+                size,
+                seed,
+                engine,
+                workers,
+            } => Job::Load {
+                size,
+                seed,
+                choice: choice(engine, workers)?,
+            },
+            Named::Edit => Job::Edit,
+            Named::Bottleneck { drop_zeros } => Job::Bottleneck { drop_zeros },
+        })
+    }
+}
+
+/// An engine with so many workers.
+fn choice(engine: Engine, workers: u32) -> Option<EngineChoice> {
+    if 1 <= workers && workers <= MAX_WORKERS {
+        Some(EngineChoice::with(engine, Workers::new(workers)))
+    } else {
+        None
+    }
+}
 
 /// Words of each command with each of its options, a line each, and the job that they name.
 #[rattlefmt::skip]
-static SPELLINGS: [(&str, Job); 62] = [
-    ("rank", Job::Rank { drop_zeros: false }),
-    ("rank --", Job::Rank { drop_zeros: false }),
-    ("rank --drop-zeros", Job::Rank { drop_zeros: true }),
-    ("diagonal", Job::Diagonal { drop_zeros: false }),
-    ("diagonal --", Job::Diagonal { drop_zeros: false }),
-    ("diagonal --drop-zeros", Job::Diagonal { drop_zeros: true }),
-    ("check", Job::Check { drop_zeros: false }),
-    ("check --", Job::Check { drop_zeros: false }),
-    ("check --drop-zeros", Job::Check { drop_zeros: true }),
-    ("bottleneck", Job::Bottleneck { drop_zeros: false }),
-    ("bottleneck --", Job::Bottleneck { drop_zeros: false }),
-    ("bottleneck --drop-zeros", Job::Bottleneck { drop_zeros: true }),
-    ("rank --drop-zeros --", Job::Rank { drop_zeros: true }),
-    ("bottleneck --drop-zeros --", Job::Bottleneck { drop_zeros: true }),
-    ("edit", Job::Edit),
-    ("edit --", Job::Edit),
-    ("analyse", Job::Analyse {
-        choice: EngineChoice { engine: Engine::Graft, workers: 4 },
-        report: ReportOptions { version: 2, order: false, pairs: false, least: false },
+static SPELLINGS: [(&str, Named); 62] = [
+    ("rank", Named::Rank { drop_zeros: false }),
+    ("rank --", Named::Rank { drop_zeros: false }),
+    ("rank --drop-zeros", Named::Rank { drop_zeros: true }),
+    ("diagonal", Named::Diagonal { drop_zeros: false }),
+    ("diagonal --", Named::Diagonal { drop_zeros: false }),
+    ("diagonal --drop-zeros", Named::Diagonal { drop_zeros: true }),
+    ("check", Named::Check { drop_zeros: false }),
+    ("check --", Named::Check { drop_zeros: false }),
+    ("check --drop-zeros", Named::Check { drop_zeros: true }),
+    ("bottleneck", Named::Bottleneck { drop_zeros: false }),
+    ("bottleneck --", Named::Bottleneck { drop_zeros: false }),
+    ("bottleneck --drop-zeros", Named::Bottleneck { drop_zeros: true }),
+    ("rank --drop-zeros --", Named::Rank { drop_zeros: true }),
+    ("bottleneck --drop-zeros --", Named::Bottleneck { drop_zeros: true }),
+    ("edit", Named::Edit),
+    ("edit --", Named::Edit),
+    ("analyse", Named::Analyse {
+        engine: Engine::Graft,
+        workers: 4,
+        report: ReportOptions { version: Version::Two, order: false, pairs: ListedPairs::None },
         drop_zeros: false,
     }),
-    ("analyse --", Job::Analyse {
-        choice: EngineChoice { engine: Engine::Graft, workers: 4 },
-        report: ReportOptions { version: 2, order: false, pairs: false, least: false },
+    ("analyse --", Named::Analyse {
+        engine: Engine::Graft,
+        workers: 4,
+        report: ReportOptions { version: Version::Two, order: false, pairs: ListedPairs::None },
         drop_zeros: false,
     }),
-    ("analyse --engine plain", Job::Analyse {
-        choice: EngineChoice { engine: Engine::Plain, workers: 4 },
-        report: ReportOptions { version: 2, order: false, pairs: false, least: false },
+    ("analyse --engine plain", Named::Analyse {
+        engine: Engine::Plain,
+        workers: 4,
+        report: ReportOptions { version: Version::Two, order: false, pairs: ListedPairs::None },
         drop_zeros: false,
     }),
-    ("analyse --engine=plain", Job::Analyse {
-        choice: EngineChoice { engine: Engine::Plain, workers: 4 },
-        report: ReportOptions { version: 2, order: false, pairs: false, least: false },
+    ("analyse --engine=plain", Named::Analyse {
+        engine: Engine::Plain,
+        workers: 4,
+        report: ReportOptions { version: Version::Two, order: false, pairs: ListedPairs::None },
         drop_zeros: false,
     }),
-    ("analyse --engine mc21", Job::Analyse {
-        choice: EngineChoice { engine: Engine::Mc21, workers: 4 },
-        report: ReportOptions { version: 2, order: false, pairs: false, least: false },
+    ("analyse --engine mc21", Named::Analyse {
+        engine: Engine::Mc21,
+        workers: 4,
+        report: ReportOptions { version: Version::Two, order: false, pairs: ListedPairs::None },
         drop_zeros: false,
     }),
-    ("analyse --engine=mc21", Job::Analyse {
-        choice: EngineChoice { engine: Engine::Mc21, workers: 4 },
-        report: ReportOptions { version: 2, order: false, pairs: false, least: false },
+    ("analyse --engine=mc21", Named::Analyse {
+        engine: Engine::Mc21,
+        workers: 4,
+        report: ReportOptions { version: Version::Two, order: false, pairs: ListedPairs::None },
         drop_zeros: false,
     }),
-    ("analyse --engine pf", Job::Analyse {
-        choice: EngineChoice { engine: Engine::Pf, workers: 4 },
-        report: ReportOptions { version: 2, order: false, pairs: false, least: false },
+    ("analyse --engine pf", Named::Analyse {
+        engine: Engine::Pf,
+        workers: 4,
+        report: ReportOptions { version: Version::Two, order: false, pairs: ListedPairs::None },
         drop_zeros: false,
     }),
-    ("analyse --engine=pf", Job::Analyse {
-        choice: EngineChoice { engine: Engine::Pf, workers: 4 },
-        report: ReportOptions { version: 2, order: false, pairs: false, least: false },
+    ("analyse --engine=pf", Named::Analyse {
+        engine: Engine::Pf,
+        workers: 4,
+        report: ReportOptions { version: Version::Two, order: false, pairs: ListedPairs::None },
         drop_zeros: false,
     }),
-    ("analyse --engine graft", Job::Analyse {
-        choice: EngineChoice { engine: Engine::Graft, workers: 4 },
-        report: ReportOptions { version: 2, order: false, pairs: false, least: false },
+    ("analyse --engine graft", Named::Analyse {
+        engine: Engine::Graft,
+        workers: 4,
+        report: ReportOptions { version: Version::Two, order: false, pairs: ListedPairs::None },
         drop_zeros: false,
     }),
-    ("analyse --engine=graft", Job::Analyse {
-        choice: EngineChoice { engine: Engine::Graft, workers: 4 },
-        report: ReportOptions { version: 2, order: false, pairs: false, least: false },
+    ("analyse --engine=graft", Named::Analyse {
+        engine: Engine::Graft,
+        workers: 4,
+        report: ReportOptions { version: Version::Two, order: false, pairs: ListedPairs::None },
         drop_zeros: false,
     }),
-    ("analyse --order", Job::Analyse {
-        choice: EngineChoice { engine: Engine::Graft, workers: 4 },
-        report: ReportOptions { version: 2, order: true, pairs: false, least: false },
+    ("analyse --order", Named::Analyse {
+        engine: Engine::Graft,
+        workers: 4,
+        report: ReportOptions { version: Version::Two, order: true, pairs: ListedPairs::None },
         drop_zeros: false,
     }),
-    ("analyse --pairs", Job::Analyse {
-        choice: EngineChoice { engine: Engine::Graft, workers: 4 },
-        report: ReportOptions { version: 2, order: false, pairs: true, least: false },
+    ("analyse --pairs", Named::Analyse {
+        engine: Engine::Graft,
+        workers: 4,
+        report: ReportOptions { version: Version::Two, order: false, pairs: ListedPairs::Any },
         drop_zeros: false,
     }),
-    ("analyse --order --pairs", Job::Analyse {
-        choice: EngineChoice { engine: Engine::Graft, workers: 4 },
-        report: ReportOptions { version: 2, order: true, pairs: true, least: false },
+    ("analyse --order --pairs", Named::Analyse {
+        engine: Engine::Graft,
+        workers: 4,
+        report: ReportOptions { version: Version::Two, order: true, pairs: ListedPairs::Any },
         drop_zeros: false,
     }),
-    ("analyse --pairs --order", Job::Analyse {
-        choice: EngineChoice { engine: Engine::Graft, workers: 4 },
-        report: ReportOptions { version: 2, order: true, pairs: true, least: false },
+    ("analyse --pairs --order", Named::Analyse {
+        engine: Engine::Graft,
+        workers: 4,
+        report: ReportOptions { version: Version::Two, order: true, pairs: ListedPairs::Any },
         drop_zeros: false,
     }),
-    ("analyse --order --engine mc21", Job::Analyse {
-        choice: EngineChoice { engine: Engine::Mc21, workers: 4 },
-        report: ReportOptions { version: 2, order: true, pairs: false, least: false },
+    ("analyse --order --engine mc21", Named::Analyse {
+        engine: Engine::Mc21,
+        workers: 4,
+        report: ReportOptions { version: Version::Two, order: true, pairs: ListedPairs::None },
         drop_zeros: false,
     }),
-    ("analyse --pairs --engine mc21 --order", Job::Analyse {
-        choice: EngineChoice { engine: Engine::Mc21, workers: 4 },
-        report: ReportOptions { version: 2, order: true, pairs: true, least: false },
+    ("analyse --pairs --engine mc21 --order", Named::Analyse {
+        engine: Engine::Mc21,
+        workers: 4,
+        report: ReportOptions { version: Version::Two, order: true, pairs: ListedPairs::Any },
         drop_zeros: false,
     }),
-    ("analyse --order --engine=plain --pairs --", Job::Analyse {
-        choice: EngineChoice { engine: Engine::Plain, workers: 4 },
-        report: ReportOptions { version: 2, order: true, pairs: true, least: false },
+    ("analyse --order --engine=plain --pairs --", Named::Analyse {
+        engine: Engine::Plain,
+        workers: 4,
+        report: ReportOptions { version: Version::Two, order: true, pairs: ListedPairs::Any },
         drop_zeros: false,
     }),
-    ("analyse --drop-zeros --order", Job::Analyse {
-        choice: EngineChoice { engine: Engine::Graft, workers: 4 },
-        report: ReportOptions { version: 2, order: true, pairs: false, least: false },
+    ("analyse --drop-zeros --order", Named::Analyse {
+        engine: Engine::Graft,
+        workers: 4,
+        report: ReportOptions { version: Version::Two, order: true, pairs: ListedPairs::None },
         drop_zeros: true,
     }),
-    ("analyse --order --drop-zeros", Job::Analyse {
-        choice: EngineChoice { engine: Engine::Graft, workers: 4 },
-        report: ReportOptions { version: 2, order: true, pairs: false, least: false },
+    ("analyse --order --drop-zeros", Named::Analyse {
+        engine: Engine::Graft,
+        workers: 4,
+        report: ReportOptions { version: Version::Two, order: true, pairs: ListedPairs::None },
         drop_zeros: true,
     }),
-    ("analyse --least", Job::Analyse {
-        choice: EngineChoice { engine: Engine::Graft, workers: 4 },
-        report: ReportOptions { version: 2, order: false, pairs: false, least: true },
+    ("analyse --least", Named::Analyse {
+        engine: Engine::Graft,
+        workers: 4,
+        report: ReportOptions { version: Version::Two, order: false, pairs: ListedPairs::Least },
         drop_zeros: false,
     }),
-    ("analyse --least --", Job::Analyse {
-        choice: EngineChoice { engine: Engine::Graft, workers: 4 },
-        report: ReportOptions { version: 2, order: false, pairs: false, least: true },
+    ("analyse --least --", Named::Analyse {
+        engine: Engine::Graft,
+        workers: 4,
+        report: ReportOptions { version: Version::Two, order: false, pairs: ListedPairs::Least },
         drop_zeros: false,
     }),
-    ("analyse --least --pairs", Job::Analyse {
-        choice: EngineChoice { engine: Engine::Graft, workers: 4 },
-        report: ReportOptions { version: 2, order: false, pairs: true, least: true },
+    ("analyse --least --pairs", Named::Analyse {
+        engine: Engine::Graft,
+        workers: 4,
+        report: ReportOptions { version: Version::Two, order: false, pairs: ListedPairs::Least },
         drop_zeros: false,
     }),
-    ("analyse --pairs --least", Job::Analyse {
-        choice: EngineChoice { engine: Engine::Graft, workers: 4 },
-        report: ReportOptions { version: 2, order: false, pairs: true, least: true },
+    ("analyse --pairs --least", Named::Analyse {
+        engine: Engine::Graft,
+        workers: 4,
+        report: ReportOptions { version: Version::Two, order: false, pairs: ListedPairs::Least },
         drop_zeros: false,
     }),
-    ("analyse --order --least", Job::Analyse {
-        choice: EngineChoice { engine: Engine::Graft, workers: 4 },
-        report: ReportOptions { version: 2, order: true, pairs: false, least: true },
+    ("analyse --order --least", Named::Analyse {
+        engine: Engine::Graft,
+        workers: 4,
+        report: ReportOptions { version: Version::Two, order: true, pairs: ListedPairs::Least },
         drop_zeros: false,
     }),
-    ("analyse --pairs --least --order", Job::Analyse {
-        choice: EngineChoice { engine: Engine::Graft, workers: 4 },
-        report: ReportOptions { version: 2, order: true, pairs: true, least: true },
+    ("analyse --pairs --least --order", Named::Analyse {
+        engine: Engine::Graft,
+        workers: 4,
+        report: ReportOptions { version: Version::Two, order: true, pairs: ListedPairs::Least },
         drop_zeros: false,
     }),
-    ("analyse --least --engine mc21 --order", Job::Analyse {
-        choice: EngineChoice { engine: Engine::Mc21, workers: 4 },
-        report: ReportOptions { version: 2, order: true, pairs: false, least: true },
+    ("analyse --least --engine mc21 --order", Named::Analyse {
+        engine: Engine::Mc21,
+        workers: 4,
+        report: ReportOptions { version: Version::Two, order: true, pairs: ListedPairs::Least },
         drop_zeros: false,
     }),
-    ("analyse --engine=mc21 --least", Job::Analyse {
-        choice: EngineChoice { engine: Engine::Mc21, workers: 4 },
-        report: ReportOptions { version: 2, order: false, pairs: false, least: true },
+    ("analyse --engine=mc21 --least", Named::Analyse {
+        engine: Engine::Mc21,
+        workers: 4,
+        report: ReportOptions { version: Version::Two, order: false, pairs: ListedPairs::Least },
         drop_zeros: false,
     }),
-    ("analyse --pairs --report 1", Job::Analyse {
-        choice: EngineChoice { engine: Engine::Graft, workers: 4 },
-        report: ReportOptions { version: 1, order: false, pairs: true, least: false },
+    ("analyse --pairs --report 1", Named::Analyse {
+        engine: Engine::Graft,
+        workers: 4,
+        report: ReportOptions { version: Version::One, order: false, pairs: ListedPairs::Any },
         drop_zeros: false,
     }),
-    ("analyse --report=1 --pairs", Job::Analyse {
-        choice: EngineChoice { engine: Engine::Graft, workers: 4 },
-        report: ReportOptions { version: 1, order: false, pairs: true, least: false },
+    ("analyse --report=1 --pairs", Named::Analyse {
+        engine: Engine::Graft,
+        workers: 4,
+        report: ReportOptions { version: Version::One, order: false, pairs: ListedPairs::Any },
         drop_zeros: false,
     }),
-    ("analyse --pairs --report 2", Job::Analyse {
-        choice: EngineChoice { engine: Engine::Graft, workers: 4 },
-        report: ReportOptions { version: 2, order: false, pairs: true, least: false },
+    ("analyse --pairs --report 2", Named::Analyse {
+        engine: Engine::Graft,
+        workers: 4,
+        report: ReportOptions { version: Version::Two, order: false, pairs: ListedPairs::Any },
         drop_zeros: false,
     }),
-    ("analyse --pairs --report +02", Job::Analyse {
-        choice: EngineChoice { engine: Engine::Graft, workers: 4 },
-        report: ReportOptions { version: 2, order: false, pairs: true, least: false },
+    ("analyse --pairs --report +02", Named::Analyse {
+        engine: Engine::Graft,
+        workers: 4,
+        report: ReportOptions { version: Version::Two, order: false, pairs: ListedPairs::Any },
         drop_zeros: false,
     }),
-    ("analyse --workers 1", Job::Analyse {
-        choice: EngineChoice { engine: Engine::Graft, workers: 1 },
-        report: ReportOptions { version: 2, order: false, pairs: false, least: false },
+    ("analyse --workers 1", Named::Analyse {
+        engine: Engine::Graft,
+        workers: 1,
+        report: ReportOptions { version: Version::Two, order: false, pairs: ListedPairs::None },
         drop_zeros: false,
     }),
-    ("analyse --workers 64", Job::Analyse {
-        choice: EngineChoice { engine: Engine::Graft, workers: 64 },
-        report: ReportOptions { version: 2, order: false, pairs: false, least: false },
+    ("analyse --workers 64", Named::Analyse {
+        engine: Engine::Graft,
+        workers: 64,
+        report: ReportOptions { version: Version::Two, order: false, pairs: ListedPairs::None },
         drop_zeros: false,
     }),
-    ("analyse --workers=2", Job::Analyse {
-        choice: EngineChoice { engine: Engine::Graft, workers: 2 },
-        report: ReportOptions { version: 2, order: false, pairs: false, least: false },
+    ("analyse --workers=2", Named::Analyse {
+        engine: Engine::Graft,
+        workers: 2,
+        report: ReportOptions { version: Version::Two, order: false, pairs: ListedPairs::None },
         drop_zeros: false,
     }),
-    ("analyse --workers 007", Job::Analyse {
-        choice: EngineChoice { engine: Engine::Graft, workers: 7 },
-        report: ReportOptions { version: 2, order: false, pairs: false, least: false },
+    ("analyse --workers 007", Named::Analyse {
+        engine: Engine::Graft,
+        workers: 7,
+        report: ReportOptions { version: Version::Two, order: false, pairs: ListedPairs::None },
         drop_zeros: false,
     }),
-    ("analyse --workers +8", Job::Analyse {
-        choice: EngineChoice { engine: Engine::Graft, workers: 8 },
-        report: ReportOptions { version: 2, order: false, pairs: false, least: false },
+    ("analyse --workers +8", Named::Analyse {
+        engine: Engine::Graft,
+        workers: 8,
+        report: ReportOptions { version: Version::Two, order: false, pairs: ListedPairs::None },
         drop_zeros: false,
     }),
-    ("analyse --workers 3 --engine pf", Job::Analyse {
-        choice: EngineChoice { engine: Engine::Pf, workers: 3 },
-        report: ReportOptions { version: 2, order: false, pairs: false, least: false },
+    ("analyse --workers 3 --engine pf", Named::Analyse {
+        engine: Engine::Pf,
+        workers: 3,
+        report: ReportOptions { version: Version::Two, order: false, pairs: ListedPairs::None },
         drop_zeros: false,
     }),
-    ("load --workers 64 --size 2 --seed 1", Job::Load {
+    ("load --workers 64 --size 2 --seed 1", Named::Load {
         size: 2,
         seed: 1,
-        choice: EngineChoice { engine: Engine::Graft, workers: 64 },
+        engine: Engine::Graft,
+        workers: 64,
     }),
-    ("load --size 1 --seed 0", Job::Load {
+    ("load --size 1 --seed 0", Named::Load {
         size: 1,
         seed: 0,
-        choice: EngineChoice { engine: Engine::Graft, workers: 4 },
+        engine: Engine::Graft,
+        workers: 4,
     }),
-    ("load --seed 0 --size 1 --", Job::Load {
+    ("load --seed 0 --size 1 --", Named::Load {
         size: 1,
         seed: 0,
-        choice: EngineChoice { engine: Engine::Graft, workers: 4 },
+        engine: Engine::Graft,
+        workers: 4,
     }),
-    ("load --seed=18446744073709551615 --size=16777216", Job::Load {
+    ("load --seed=18446744073709551615 --size=16777216", Named::Load {
         size: 16777216,
         seed: 18446744073709551615,
-        choice: EngineChoice { engine: Engine::Graft, workers: 4 },
+        engine: Engine::Graft,
+        workers: 4,
     }),
-    ("load --engine mc21 --seed 7 --size 30", Job::Load {
+    ("load --engine mc21 --seed 7 --size 30", Named::Load {
         size: 30,
         seed: 7,
-        choice: EngineChoice { engine: Engine::Mc21, workers: 4 },
+        engine: Engine::Mc21,
+        workers: 4,
     }),
-    ("load --engine pf --size 30 --seed 7", Job::Load {
+    ("load --engine pf --size 30 --seed 7", Named::Load {
         size: 30,
         seed: 7,
-        choice: EngineChoice { engine: Engine::Pf, workers: 4 },
+        engine: Engine::Pf,
+        workers: 4,
     }),
-    ("load --size 30 --seed 7 --engine=pf", Job::Load {
+    ("load --size 30 --seed 7 --engine=pf", Named::Load {
         size: 30,
         seed: 7,
-        choice: EngineChoice { engine: Engine::Pf, workers: 4 },
+        engine: Engine::Pf,
+        workers: 4,
     }),
-    ("load --size 30 --engine=graft --seed 7", Job::Load {
+    ("load --size 30 --engine=graft --seed 7", Named::Load {
         size: 30,
         seed: 7,
-        choice: EngineChoice { engine: Engine::Graft, workers: 4 },
+        engine: Engine::Graft,
+        workers: 4,
     }),
-    ("load --size 007 --engine=plain --seed +4", Job::Load {
+    ("load --size 007 --engine=plain --seed +4", Named::Load {
         size: 7,
         seed: 4,
-        choice: EngineChoice { engine: Engine::Plain, workers: 4 },
+        engine: Engine::Plain,
+        workers: 4,
     }),
 ];
 
@@ -419,9 +539,12 @@ fn are_refused(alloc: Global, lines: &[&str]) -> bool {
 }
 
 /// Whether the words of each line are taken.
-fn are_taken(alloc: Global, spellings: &[(&str, Job)]) -> bool {
-    for (line, job) in spellings {
-        if !is_read(alloc, line, Ok(*job)) {
+fn are_taken(alloc: Global, spellings: &[(&str, Named)]) -> bool {
+    for (line, named) in spellings {
+        let Some(job) = named.job() else {
+            return false;
+        };
+        if !is_read(alloc, line, Ok(job)) {
             return false;
         }
     }

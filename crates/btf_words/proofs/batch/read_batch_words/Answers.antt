@@ -10,7 +10,8 @@ returns-in-Ok-try_get_matches_from-clause-taken c =
 
 pub returns-in-Ok-try_get_matches_from-clause-workers : goal.returns-in-Ok-try_get_matches_from-clause-workers
 returns-in-Ok-try_get_matches_from-clause-workers c =
-    number_found (app_of c.in-Ok.program) (map string_bytes c.args.words.now) c.in-Ok-try_get_matches_from.matches c.number_of-workers.result
+    c.new.ensures
+    ∙ number_found (app_of c.in-Ok.program) (map string_bytes c.args.words.now) c.in-Ok-try_get_matches_from.matches c.number_of-workers.result
     c.in-Ok.ensures c.in-Ok-try_get_matches_from.ensures.matches
     (c.number_of-workers.ensures.number ∙ ap (λ (high : ℕ). number_in 1 high (codes "workers") (rows_of (found_of c.in-Ok-try_get_matches_from.matches))) (search rules))
 

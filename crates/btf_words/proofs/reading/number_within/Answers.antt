@@ -1,5 +1,5 @@
 use Rattle.btf_words.proofs.NumberLemmas.{spelt, not_spelt}
-use Rattle.btf_words.proofs.reading.bounded_number.Goals as goal
+use Rattle.btf_words.proofs.reading.number_within.Goals as goal
 
 pub returns-then-number-high-clause-number : goal.returns-then-number-high-clause-number
 returns-then-number-high-clause-number c =
