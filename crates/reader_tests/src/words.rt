@@ -1,20 +1,38 @@
 //! The words of `btf`: which are taken, and the jobs that they name.
 
 use btf_words::{
-    Engine, EngineChoice, Job, ListedPairs, ReportOptions, Version, Workers, WordsError, read_words,
+    Engine, EngineChoice, Job, ListedPairs, ReportOptions, Version, WordsError, Workers, read_words,
 };
 use sp_ids::MAX_WORKERS;
 use std::alloc::{AllocError, Global};
 
 /// A job as the table below has it: with a number of workers beside every engine.
 enum Named {
-    Rank { drop_zeros: bool },
-    Analyse { engine: Engine, workers: u32, report: ReportOptions, drop_zeros: bool },
-    Diagonal { drop_zeros: bool },
-    Check { drop_zeros: bool },
-    Load { size: u32, seed: u64, engine: Engine, workers: u32 },
+    Rank {
+        drop_zeros: bool,
+    },
+    Analyse {
+        engine: Engine,
+        workers: u32,
+        report: ReportOptions,
+        drop_zeros: bool,
+    },
+    Diagonal {
+        drop_zeros: bool,
+    },
+    Check {
+        drop_zeros: bool,
+    },
+    Load {
+        size: u32,
+        seed: u64,
+        engine: Engine,
+        workers: u32,
+    },
     Edit,
-    Bottleneck { drop_zeros: bool },
+    Bottleneck {
+        drop_zeros: bool,
+    },
 }
 
 impl Named {
