@@ -1,5 +1,5 @@
 -- Lists of all seats, one after the other, where the lists of one seat change.
-use Rattle.std.proofs.Common.{◌≡◌, ◌≢◌, ◌∙◌, ◌⊎◌, ℕ, zero, suc, ◌+◌, ◌<◌, ◌≤◌, ◌==◌, if◌then◌else◌, List, [], ◌∷◌, ◌++◌, set, flat_map, refl, sym, ap, subst, inl, inr, ⊎_elim, arith, append-nil}
+use Rattle.std.proofs.Common.{◌≡◌, ◌≢◌, ◌∙◌, ◌⊎◌, ℕ, zero, suc, ◌+◌, ◌<◌, ◌≤◌, ◌==◌, if◌then◌else◌, List, [], ◌∷◌, ◌++◌, set, flat_map, refl, sym, ap, subst, inl, inr, ⊎_elim, arith, append-nil, append_assoc}
 use Rattle.std.proofs.lemmas.Grind.{flat_map-append}
 use mathlib.Core.Option.{some, some-injective, some-ne-none}
 use lib.ListN.{get_elem?}
@@ -63,6 +63,10 @@ module _ {L X : Type 0} (g : L → List X) where
   -- a list at the end that is empty
   pub flat_snoc : (ls : List L) (m : L) → g m ≡ [] → flat_map g (ls ++ m ∷ []) ≡ flat_map g ls
   flat_snoc ls m e = flat_map-append g ls (m ∷ []) ∙ ap (λ xs. flat_map g ls ++ (xs ++ [])) e ∙ append-nil (flat_map g ls)
+
+  -- one list more at the end, and what follows all
+  pub flat_last : (ls : List L) (l : L) (xs : List X) → flat_map g (ls ++ l ∷ []) ++ xs ≡ flat_map g ls ++ (g l ++ xs)
+  flat_last ls l xs = ap (λ ys. ys ++ xs) (flat_map-append g ls (l ∷ []) ∙ ap (λ ys. flat_map g ls ++ ys) (append-nil (g l))) ∙ append_assoc (flat_map g ls) (g l) xs
 
   -- a list in the place of one that has the same elements
   pub flat_same : (ls : List L) (k : ℕ) (l m : L) → get_elem? ls k ≡ some l → g m ≡ g l → flat_map g (set ls k m) ≡ flat_map g ls

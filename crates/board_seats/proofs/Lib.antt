@@ -1,4 +1,5 @@
 pub mod Flat
 pub mod Numbered
 pub mod SeatNumbers
+pub mod States
 pub mod WordCodes

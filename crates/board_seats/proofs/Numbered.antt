@@ -1,9 +1,8 @@
 -- Seats in the order of their numbers, and in any order.
-use Rattle.std.proofs.Common.{◌≡◌, ◌≢◌, ◌∙◌, ◌⊎◌, ℕ, zero, suc, ◌+◌, ◌<◌, ◌≤◌, ◌==◌, if◌then◌else◌, List, [], ◌∷◌, ◌++◌, append-nil, append_assoc, flat_map, get_or, length, sum_by, refl, sym, ap, subst, inl, inr, ⊎_elim, arith}
+use Rattle.std.proofs.Common.{◌≡◌, ◌∙◌, ◌⊎◌, ℕ, zero, suc, ◌+◌, ◌<◌, ◌≤◌, ◌==◌, if◌then◌else◌, List, [], ◌∷◌, ◌++◌, flat_map, length, sum_by, refl, sym, ap, subst, inl, inr, ⊎_elim, arith}
 use Rattle.std.specs.List.{AllZip}
 use Rattle.std.specs.List.Sorted.{IsNonDecreasingBy, IsPermutation}
 use Rattle.std.proofs.lemmas.List.Sorted.{Contains-permutation, IsPermutation-sym, length_permutation, sum_by-IsPermutation}
-use Rattle.std.proofs.lemmas.Grind.{flat_map-append}
 use Rattle.std.proofs.lemmas.List.{map-append}
 use Rattle.std.proofs.lemmas.List.Sums.{sum_by-cons}
 use Rattle.std.proofs.lemmas.Slice.Zip.{AllZip-long}
@@ -24,6 +23,10 @@ below_not : (n count : ℕ) → count ≤ n → below n count ≡ 0
 below_not n zero le = refl
 below_not zero (suc count) le = absurd (omega (arith, le))
 below_not (suc n) (suc count) le = below_not n count (omega (arith, le))
+
+-- how two lists, and all of several, are one: a list at the end of these may go to the head of what follows them
+pub record IsGathering {L : Type 0} (followed_by : L → L → L) (all_listed : List L → L) : Type 0 where
+  pub last : (ls : List L) (l m : L) → followed_by (all_listed (ls ++ l ∷ [])) m ≡ followed_by (all_listed ls) (followed_by l m)
 
 -- a permutation of a list has its elements
 pub among_permuted : {X : Type 0} (xs ys : List X) (x : X) → IsPermutation xs ys → Among x xs → Among x ys
@@ -230,6 +233,5 @@ module _ {B L : Type 0} where
   times_moved_seats g i ss ts moved = times_sum g i ts ∙ sum_by-IsPermutation (λ (s : Seat B L). times i (g s.listed)) ss ts moved ∙ sym (times_sum g i ss)
 
   -- the lists of the seat with the highest number go to before those of the seat 0
-  pub flat_last : {X : Type 0} (g : L → List X) (ss : List (Seat B L)) (s : Seat B L) (xs : List X) → flat_map g (lists_of (ss ++ s ∷ [])) ++ xs ≡ flat_map g (lists_of ss) ++ (g s.listed ++ xs)
-  flat_last g ss s xs = ap (λ ls. flat_map g ls ++ xs) (map-append (λ (t : Seat B L). t.listed) ss (s ∷ []))
-      ∙ ap (λ ys. ys ++ xs) (flat_map-append g (lists_of ss) (s.listed ∷ []) ∙ ap (λ ys. flat_map g (lists_of ss) ++ ys) (append-nil (g s.listed))) ∙ append_assoc (flat_map g (lists_of ss)) (g s.listed) xs
+  pub listed_last : {followed_by : L → L → L} {all_listed : List L → L} → IsGathering followed_by all_listed → (ss : List (Seat B L)) (s : Seat B L) (m : L) → followed_by (all_listed (lists_of (ss ++ s ∷ []))) m ≡ followed_by (all_listed (lists_of ss)) (followed_by s.listed m)
+  listed_last {followed_by = both} {all_listed = all} gathering ss s m = ap (λ ls. both (all ls) m) (map-append (λ (t : Seat B L). t.listed) ss (s ∷ [])) ∙ gathering.last (lists_of ss) s.listed m

@@ -7,14 +7,15 @@ use Rattle.atomic_table.specs.Table.{Final, Me, Seen}
 use Rattle.bip_defs.specs.WordValues.{held, value_of}
 use Rattle.claim_words.specs.Board.{Board, Words}
 use Rattle.claim_words.specs.WordCodes.{AllFit, decoded, rows_in}
-use Rattle.claim_words.specs.Listed.{all_listed}
-use Rattle.claim_words.specs.Rule.{Kept, Known, known, listed_by}
+use Rattle.claim_words.specs.Listed.{all_listed, nothing}
+use Rattle.claim_words.specs.Rule.{Kept, Known, nobody}
 use Rattle.claim_words.specs.Seat.{Seat, first_seat, gathered}
 use Rattle.claim_words.specs.Settles.{Settles, SettlesAll}
-use Rattle.claim_words.specs.Stored.{IsLeft, IsOpen, shown}
+use Rattle.claim_words.specs.Stored.{IsLeft, shown}
 use Rattle.board_seats.proofs.WordCodes.{first_read, rest_read}
 use Rattle.claim_words.proofs.GatherLemmas.{settles_gathered, settles_permuted}
 use Rattle.claim_words.proofs.SettledWords.{alone}
+use Rattle.board_seats.specs.View.{IsOpen, known_or, listed_or}
 
 -- What is read.
 
@@ -43,17 +44,17 @@ left n rows opened words xs id v fact there (s, (kept, at), same, long, homes) =
 }
 
 pub last_known : {S : Type 0} (n rows : ℕ) (opened words : List ℕ) (xs : List S) (id : ℕ) (table : Rattle.atomic_table.specs.Seated.TableId) (me : Me S (Option Known)) (b : Board) (ss ts : List Seat)
-    → IsPermutation ss ts → IsOpen me → n ≡ rows → shown table (known me.0) ≡ first_seat b 1 (gathered ts) → Final (Seen (Kept n opened) id me.0) words xs → SettlesAll b (decoded rows words) ss
+    → IsPermutation ss ts → IsOpen nobody me → n ≡ rows → shown table (known_or nobody me.0) ≡ first_seat b 1 (gathered ts) → Final (Seen (Kept n opened) id me.0) words xs → SettlesAll b (decoded rows words) ss
 last_known n rows opened words xs id table me b ss ts moved live fact view (s, (kept, at), same, long, homes) =
     settles_permuted b.rows b.roots (decoded rows words) ss ts moved (settles_gathered b.rows b.roots (decoded rows words) ts
     (subst (λ (t : Seat). Settles t.board.rows t.board.roots (decoded rows words) t.listed) view
-    (subst (λ m. Settles (known me.0).opened.rows (known me.0).opened.roots (decoded m words) (known me.0).listed) fact
-    (subst (λ ws. Settles (known me.0).opened.rows (known me.0).opened.roots (decoded n ws) (known me.0).listed) same account))))
+    (subst (λ m. Settles (known_or nobody me.0).opened.rows (known_or nobody me.0).opened.roots (decoded m words) (known_or nobody me.0).listed) fact
+    (subst (λ ws. Settles (known_or nobody me.0).opened.rows (known_or nobody me.0).opened.roots (decoded n ws) (known_or nobody me.0).listed) same account))))
   where
-    there : get_elem? s.views id ≡ some (Some (known me.0))
+    there : get_elem? s.views id ≡ some (Some (known_or nobody me.0))
     there = at ∙ ap some live.0
 
-    account : Settles (known me.0).opened.rows (known me.0).opened.roots (decoded n s.words) (known me.0).listed
-    account = subst (Settles (known me.0).opened.rows (known me.0).opened.roots (decoded n s.words)) (alone kept.seats id (known me.0) there (ap (λ (t : Seat). t.number) view) (ap (λ (t : Seat). t.seats) view))
-        (subst (λ rows. Settles rows (known me.0).opened.roots (decoded n s.words) (all_listed (map listed_by s.views))) (sym (ap (λ (o : Words). o.rows) (kept.seats.opened id (known me.0) there)))
-        (subst (λ roots. Settles (rows_in n opened) roots (decoded n s.words) (all_listed (map listed_by s.views))) (sym (ap (λ (o : Words). o.roots) (kept.seats.opened id (known me.0) there))) kept.settles))
+    account : Settles (known_or nobody me.0).opened.rows (known_or nobody me.0).opened.roots (decoded n s.words) (known_or nobody me.0).listed
+    account = subst (Settles (known_or nobody me.0).opened.rows (known_or nobody me.0).opened.roots (decoded n s.words)) (alone kept.seats id (known_or nobody me.0) there (ap (λ (t : Seat). t.number) view) (ap (λ (t : Seat). t.seats) view))
+        (subst (λ rows. Settles rows (known_or nobody me.0).opened.roots (decoded n s.words) (all_listed (map (listed_or nothing) s.views))) (sym (ap (λ (o : Words). o.rows) (kept.seats.opened id (known_or nobody me.0) there)))
+        (subst (λ roots. Settles (rows_in n opened) roots (decoded n s.words) (all_listed (map (listed_or nothing) s.views))) (sym (ap (λ (o : Words). o.roots) (kept.seats.opened id (known_or nobody me.0) there))) kept.settles))

@@ -4,19 +4,18 @@ use Rattle.claim_words.specs.Board.{Board, Words}
 use Rattle.claim_words.specs.Listed.{Listed, all_listed, followed_by}
 use Rattle.claim_words.specs.Seat.{AreNumbered, Seat, first_seat, gathered, lists_of}
 use Rattle.claim_words.specs.Settles.{Settles}
-use Rattle.board_seats.proofs.Flat.{among_turned, times_turned}
-use Rattle.board_seats.proofs.Numbered.{among_moved_seats, flat_last, numbered_last, times_moved_seats}
+use Rattle.board_seats.proofs.Flat.{among_turned, times_turned, flat_last}
+use Rattle.board_seats.proofs.Numbered.{among_moved_seats, numbered_last, times_moved_seats, IsGathering, listed_last}
 use Rattle.std.specs.List.Sorted.{IsPermutation}
 use Rattle.claim_words.proofs.AccountLemmas.{accounts_moved}
 use Rattle.claim_words.proofs.SettledWords.{claims_of, seen_of, wins_of}
 
--- the lists of the last seat go to before those of the seat 0
-pub listed_last : (ss : List Seat) (s : Seat) (l : Listed) → followed_by (all_listed (lists_of (ss ++ s ∷ []))) l ≡ followed_by (all_listed (lists_of ss)) (followed_by s.listed l)
-listed_last ss s l = λ i. record {
-  claims = flat_last (λ (m : Listed). m.claims) ss s l.claims i;
-  wins = flat_last (λ (m : Listed). m.wins) ss s l.wins i;
-  seen = flat_last (λ (m : Listed). m.seen) ss s l.seen i;
-}
+pub gathering : IsGathering followed_by all_listed
+gathering = record { last = λ ls l m. λ i. record {
+  claims = flat_last (λ (k : Listed). k.claims) ls l m.claims i;
+  wins = flat_last (λ (k : Listed). k.wins) ls l m.wins i;
+  seen = flat_last (λ (k : Listed). k.seen) ls l m.seen i;
+} }
 
 -- All seats of a board.
 
@@ -31,7 +30,7 @@ last_taken b ss first now s all total numbered e is same =
     let (before, last_board, last_number) = numbered_last b 1 ss s (subst (AreNumbered b 1) e numbered) in (
       subst (λ (t : Seat). t ≡ first_seat b (1 + length ss) t.listed) (sym is) (ap (λ n. first_seat b n (followed_by s.listed first.listed)) last_number),
       before,
-      ap (λ (t : Seat). followed_by (all_listed (lists_of ss)) t.listed) is ∙ sym (listed_last ss s first.listed) ∙ ap (λ ts. followed_by (all_listed (lists_of ts)) first.listed) (sym e) ∙ same,
+      ap (λ (t : Seat). followed_by (all_listed (lists_of ss)) t.listed) is ∙ sym (listed_last gathering ss s first.listed) ∙ ap (λ ts. followed_by (all_listed (lists_of ts)) first.listed) (sym e) ∙ same,
     )
 
 -- The seat 0's list at the end or at the head is the same for the words.

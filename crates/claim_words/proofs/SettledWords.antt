@@ -12,8 +12,8 @@ use Rattle.claim_words.specs.Settles.{Settles, Stands}
 use Rattle.claim_words.proofs.AccountLemmas.{accounts_added, accounts_moved}
 use Rattle.board_seats.proofs.Flat.{among_moved, flat_same, flat_snoc, from_last, times_more, times_moved}
 use Rattle.board_seats.proofs.SeatNumbers.{only_flat, only_seat}
-use Rattle.board_seats.specs.View.{AreSeated}
-use Rattle.claim_words.specs.Rule.{Known, listed_by}
+use Rattle.board_seats.specs.View.{AreSeated, listed_or}
+use Rattle.claim_words.specs.Rule.{Known}
 
 abbrev pub claims_of : Listed → List (ℕ × ℕ)
 claims_of l = l.claims
@@ -25,7 +25,7 @@ abbrev pub seen_of : Listed → List Sight
 seen_of l = l.seen
 
 -- where the seat 0 is the only one, its lists are all that there are
-pub alone : {o : Words} {views : List (Option Known)} → AreSeated o views → (id : ℕ) (k : Known) → get_elem? views id ≡ some (Some k) → k.number ≡ 0 → k.seats ≡ 1 → all_listed (map listed_by views) ≡ k.listed
+pub alone : {o : Words} {views : List (Option Known)} → AreSeated o views → (id : ℕ) (k : Known) → get_elem? views id ≡ some (Some k) → k.number ≡ 0 → k.seats ≡ 1 → all_listed (map (listed_or nothing) views) ≡ k.listed
 alone {views = views} a id k at zeroth one = λ i. record {
   claims = only_flat nothing claims_of refl views id k at (only_seat a id k at zeroth one) i;
   wins = only_flat nothing wins_of refl views id k at (only_seat a id k at zeroth one) i;

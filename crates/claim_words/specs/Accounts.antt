@@ -1,7 +1,7 @@
 -- How lists of claims, or of wins, account for words: each entry of a list is a word and the value
 -- that it got.
-use Rattle.std.specs.Prelude.{◌≡◌, ℕ, ◌==◌, if◌then◌else◌, List, [], ◌∷◌, Option, None, Some, length}
-use Rattle.bip_defs.specs.Lists.{Among}
+use Rattle.std.specs.Prelude.{◌≡◌, ◌⊎◌, ℕ, ◌≤◌, ◌==◌, if◌then◌else◌, List, [], ◌∷◌, Option, None, Some, length}
+use Rattle.bip_defs.specs.Lists.{Among, AreDistinct, numbers_of}
 use Rattle.bip_defs.specs.Occurrences.{times}
 use Rattle.bip_defs.specs.WordValues.{held, is_added}
 
@@ -12,6 +12,16 @@ pub record Accounts (opened now : List (Option ℕ)) (listed : List (ℕ × ℕ)
   pub stays : (i x : ℕ) → held opened i ≡ Some x → held now i ≡ Some x
   pub stands : (i x : ℕ) → Among (i, x) listed → held now i ≡ Some x
   pub once : (i : ℕ) → times i listed ≡ is_added (held opened i) (held now i)
+
+-- what such a list tells of the words
+pub record TellsOfWords (opened now : List (Option ℕ)) (listed : List (ℕ × ℕ)) : Type 0 where
+  -- a word that is listed was opened empty, and holds what is listed
+  pub stands : (i x : ℕ) → Among (i, x) listed → (held opened i ≡ None) × (held now i ≡ Some x)
+  -- a word that holds a value was opened with it, or is listed with it
+  pub from : (i x : ℕ) → held now i ≡ Some x → (held opened i ≡ Some x) ⊎ Among (i, x) listed
+  -- each word is listed once, and no more words than there are
+  pub once : AreDistinct (numbers_of listed)
+  pub few : length listed ≤ length opened
 
 -- the value that is first listed for a word
 abbrev pub first_listed : ℕ → List (ℕ × ℕ) → Option ℕ

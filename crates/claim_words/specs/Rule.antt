@@ -3,7 +3,7 @@
 use Rattle.std.specs.Prelude.{◌≡◌, ℕ, List, [], Option, length, map, slice_index}
 use Rattle.atomic_table.specs.Table.{State}
 use Rattle.board_seats.specs.View as views
-use Rattle.board_seats.specs.View.{AreSeated}
+use Rattle.board_seats.specs.View.{AreSeated, listed_or}
 use Rattle.claim_words.specs.Board.{Words}
 use Rattle.claim_words.specs.WordCodes.{decoded, roots_in, rows_in, AllFit}
 use Rattle.claim_words.specs.Listed.{Listed, all_listed, nothing}
@@ -16,12 +16,6 @@ Known = views.Known Words Listed
 abbrev pub nobody : Known
 nobody = record { opened = record { rows = []; roots = [] }; number = 0; seats = 0; listed = nothing }
 
-abbrev pub known : Option Known → Known
-known = views.known_or nobody
-
-abbrev pub listed_by : Option Known → Listed
-listed_by = views.listed_or nothing
-
 -- The spare word stays empty, every word is empty or fits 32 bits, the seats are numbered, and the
 -- lists of all seats account for all words
 pub record Kept {S : Type 0} (rows : ℕ) (opened : List ℕ)
@@ -31,7 +25,7 @@ pub record Kept {S : Type 0} (rows : ℕ) (opened : List ℕ)
   pub fits : AllFit s.words
   pub seats : AreSeated (decoded rows opened) s.views
   pub settles : Settles (rows_in rows opened) (roots_in rows opened) (decoded rows s.words)
-      (all_listed (map listed_by s.views))
+      (all_listed (map (listed_or nothing) s.views))
 
 -- the first seat of a board that is opened with these words
 abbrev pub opener : ℕ → List ℕ → Option Known

@@ -1,11 +1,10 @@
--- What each kind of step tells its seat, and what a split and a join do to views.
+-- What each kind of step tells its seat.
 use Rattle.std.specs.Prelude.{◌≡◌, ◌⊎◌, ℕ, ◌+◌, ◌≤◌, Option, Some, length}
 use Rattle.bip_defs.specs.Lists.{Among}
 use Rattle.bip_defs.specs.WordValues.{held, value_of}
 use Rattle.atomic_table.specs.Table.{Me, Step}
-use Rattle.board_seats.specs.View as views
 use Rattle.claim_words.specs.Board.{Words}
-use Rattle.claim_words.specs.Listed.{Listed, claimed, followed_by, looked, nothing, root_word, row_word, won}
+use Rattle.claim_words.specs.Listed.{Listed, claimed, looked, root_word, row_word, won}
 use Rattle.claim_words.specs.Rule.{Known}
 use Rattle.claim_words.specs.Settles.{Settles}
 use Rattle.claim_words.specs.WordCodes.{greatest_word}
@@ -58,11 +57,3 @@ module _ {S : Type 0} where
   abbrev pub TellsAll : Step S → Me S (Option Known) → ℕ → Me S (Option Known) → Type 0
   TellsAll st before found after = (after ≡ before)
       × ((k : Known) → before.0 ≡ Some k → (words : Words) × Settles k.opened.rows k.opened.roots words k.listed)
-
--- a seat that is split off, and the lists of one that is taken in before those of the seat 0
-
-abbrev pub newcomer : Option Known → Option Known
-newcomer = views.newcomer nothing
-
-abbrev pub joined : Option Known → Option Known → Option Known
-joined = views.joined followed_by

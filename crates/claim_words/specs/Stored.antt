@@ -4,9 +4,10 @@ use Rattle.atomic_table.specs.Seated.{TableId}
 use Rattle.atomic_table.specs.Table.{Me}
 use Rattle.claim_words.specs.Board.{Board}
 use Rattle.claim_words.specs.WordCodes.{roots_in, rows_in, AllFit}
-use Rattle.claim_words.specs.Rule.{Known, known, nobody}
+use Rattle.claim_words.specs.Rule.{Known, nobody}
 use Rattle.claim_words.specs.Seat.{Seat}
 use Rattle.sp_ids.specs.Limits.{max_workers}
+use Rattle.board_seats.specs.View.{IsOpen, known_or}
 
 -- what a seat of this table shows
 abbrev pub shown : TableId → Known → Seat
@@ -17,16 +18,12 @@ shown id k = record {
   listed = k.listed;
 }
 
--- a seat that was not joined to another, and holds no slot
-abbrev pub IsOpen : {S : Type 0} → Me S (Option Known) → Type 0
-IsOpen me = (me.0 ≡ Some (known me.0)) × (me.1 ≡ [])
-
 -- such a seat, which keeps its number, below 64, and counts 64 seats at most
 pub record IsStored {S : Type 0} (number : ℕ) (me : Me S (Option Known)) : Type 0 where
-  pub live : IsOpen me
-  pub number_is : number ≡ (known me.0).number
+  pub live : IsOpen nobody me
+  pub number_is : number ≡ (known_or nobody me.0).number
   pub below : number < max_workers
-  pub few : (known me.0).seats ≤ max_workers
+  pub few : (known_or nobody me.0).seats ≤ max_workers
 
 -- a board in this table, which was opened with these words
 abbrev pub board_in : TableId → ℕ → List ℕ → Board

@@ -4,11 +4,11 @@ ghost use Rattle.std.specs.Prelude.{◌≡◌, ◌⊎◌, ℕ, ◌+◌, ◌≤�
 ghost use Rattle.bip_defs.specs.Lists.{Among, AreDistinct, numbers_of};
 ghost use Rattle.bip_defs.specs.Occurrences.{times};
 ghost use Rattle.bip_defs.specs.WordValues.{held};
-ghost use Rattle.claim_words.specs.Accounts.{Accounts, listed_word};
+ghost use Rattle.claim_words.specs.Accounts.{Accounts, TellsOfWords, listed_word};
 ghost use Rattle.claim_words.specs.Board.{Board, Words, opened_words};
-ghost use Rattle.claim_words.specs.Listed.{Listed, root_word, row_word};
-ghost use Rattle.claim_words.specs.Seat.{AreAllSeats, HoldsAllSeats, KnowsRoot, KnowsRow, Seat, new_seats};
-ghost use Rattle.claim_words.specs.Settles.{Settles, SettlesAll};
+ghost use Rattle.claim_words.specs.Listed.{Listed};
+ghost use Rattle.claim_words.specs.Seat.{AreAllSeats, HoldsAllSeats, Seat, new_seats};
+ghost use Rattle.claim_words.specs.Settles.{KnowWords, SawListed, Settles, SettlesAll};
 
 /// Where a list accounts for words, each word is the value with which it was opened, or else what
 /// is listed for it. So lists that account for the same words list the same, and a list accounts
@@ -27,16 +27,8 @@ pub fn words_are_listed()
 /// listed, and is listed once; a word that holds a value was opened with it, or is listed with it.
 /// So no more words are listed than there are.
 pub fn listed_words_stand()
-    ensures stands { (opened now : List (Option ℕ)) (listed : List (ℕ × ℕ)) (i x : ℕ)
-        → Accounts opened now listed → Among (i, x) listed
-        → (held opened i ≡ None) × (held now i ≡ Some x) }
-    ensures from { (opened now : List (Option ℕ)) (listed : List (ℕ × ℕ)) (i x : ℕ)
-        → Accounts opened now listed → held now i ≡ Some x
-        → (held opened i ≡ Some x) ⊎ Among (i, x) listed }
-    ensures once { (opened now : List (Option ℕ)) (listed : List (ℕ × ℕ))
-        → Accounts opened now listed → AreDistinct (numbers_of listed) }
-    ensures few { (opened now : List (Option ℕ)) (listed : List (ℕ × ℕ))
-        → Accounts opened now listed → length listed ≤ length opened }
+    ensures { (opened now : List (Option ℕ)) (listed : List (ℕ × ℕ))
+        → Accounts opened now listed → TellsOfWords opened now listed }
 {}
 
 /// How often a word is listed adds up over lists; a word is listed where some value is listed for
@@ -53,18 +45,10 @@ pub fn times_add_up()
 /// Where the lists of all seats account for the words, what one of them knows of a word is what the
 /// word holds: it is the value with which the word was opened, or is listed for it.
 pub fn known_values_stand()
-    ensures rows { (b : Board) (words : Words) (ss : List Seat) (s : Seat) (row col : ℕ)
-        → SettlesAll b words ss → Among s ss → s.board ≡ b → KnowsRow s row col
-        → held words.rows row ≡ Some col }
-    ensures roots { (b : Board) (words : Words) (ss : List Seat) (s : Seat) (root leaf : ℕ)
-        → SettlesAll b words ss → Among s ss → s.board ≡ b → KnowsRoot s root leaf
-        → held words.roots root ≡ Some leaf }
-    ensures seen_col { (rows roots : List (Option ℕ)) (words : Words) (l : Listed) (row col : ℕ)
-        → Settles rows roots words l → Among (row_word row (Some col)) l.seen
-        → (held rows row ≡ Some col) ⊎ Among (row, col) l.claims }
-    ensures seen_leaf { (rows roots : List (Option ℕ)) (words : Words) (l : Listed) (root leaf : ℕ)
-        → Settles rows roots words l → Among (root_word root (Some leaf)) l.seen
-        → (held roots root ≡ Some leaf) ⊎ Among (root, leaf) l.wins }
+    ensures known { (b : Board) (words : Words) (ss : List Seat)
+        → SettlesAll b words ss → KnowWords b words ss }
+    ensures seen { (rows roots : List (Option ℕ)) (words : Words) (l : Listed)
+        → Settles rows roots words l → SawListed rows roots l }
 {}
 
 /// New seats are as many as were asked for, and at least one of them is all seats of the board, in

@@ -20,10 +20,11 @@ impl Model for ClaimSeat {
 
     ghost Value = { model.Seat };
 
-    ghost use Rattle.claim_words.specs.Rule.{known};
+    ghost use Rattle.claim_words.specs.Rule.{nobody};
     ghost use Rattle.claim_words.specs.Stored.{IsStored, shown};
+    ghost use Rattle.board_seats.specs.View.{known_or};
 
-    ghost view = { λ s. shown s.seat.table_id (known s.seat.me.0) };
+    ghost view = { λ s. shown s.seat.table_id (known_or nobody s.seat.me.0) };
 
     ghost invariant = { λ s. IsStored s.number s.seat.me };
 }

@@ -7,7 +7,7 @@ ghost use Rattle.claim_words.specs.Accounts.{value_or};
 ghost use Rattle.claim_words.specs.Board.{Board};
 ghost use Rattle.claim_words.specs.Listed.{Listed, Sight, claimed, followed_by, looked, nothing, root_word, row_word, won};
 ghost use Rattle.claim_words.specs.Seat.{KnowsRoot, KnowsRow, Seat, after_claim, after_look, after_win};
-ghost use Rattle.claim_words.specs.WorkerState.{AreAllWorkers, HasGrown, HaveGrown, WorkerState, fresh_claims_of, fresh_lists, fresh_wins_of, listed_by_workers, seated, seats_of, settled, with_more, work_after_claim, work_after_look, work_after_win};
+ghost use Rattle.claim_words.specs.WorkerState.{AreAllWorkers, HasGrown, HaveGrown, KnowsAsMuch, WorkerState, fresh_claims_of, fresh_lists, fresh_wins_of, listed_by_workers, seated, seats_of, settled, with_more, work_after_claim, work_after_look, work_after_win};
 
 /// What each step of a worker adds to what it lists. Of two steps, what the second adds stands
 /// behind what the first does.
@@ -39,10 +39,7 @@ pub fn workers_grow()
 /// A worker knows what it knew before, and what a claim, a win or a look has told it: the value
 /// that was found, or else the one that was written.
 pub fn workers_know_more()
-    ensures row { (v w : WorkerState) (row x : ℕ) → HasGrown v w → KnowsRow v.seat row x
-        → KnowsRow w.seat row x }
-    ensures root { (v w : WorkerState) (root x : ℕ) → HasGrown v w → KnowsRoot v.seat root x
-        → KnowsRoot w.seat root x }
+    ensures grown { (v w : WorkerState) → HasGrown v w → KnowsAsMuch v w }
     ensures claim { (s : Seat) (row col x : ℕ) (found : Option ℕ)
         → value_or found (Some col) ≡ Some x → KnowsRow (after_claim s row col found) row x }
     ensures win { (s : Seat) (root leaf x : ℕ) (found : Option ℕ)

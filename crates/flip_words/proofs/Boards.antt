@@ -4,11 +4,12 @@ use Rattle.atomic_table.specs.Seated.{TableId}
 use Rattle.atomic_table.specs.Table.{Me}
 use Rattle.bip_defs.specs.Lists.{Among}
 use Rattle.flip_words.specs.Board.{Board}
-use Rattle.flip_words.specs.Rule.{IsOfTaken, Known, Opened, opened_in}
+use Rattle.flip_words.specs.Rule.{IsOfTaken, Known, Opened, opened_in, nobody}
 use Rattle.flip_words.specs.Seat.{HasSet, Seat, TookTreeOf}
-use Rattle.flip_words.specs.Stored.{IsLaid, IsOpen, board_in, shown}
+use Rattle.flip_words.specs.Stored.{IsLaid, board_in, shown}
 use Rattle.flip_words.specs.WordCodes.{mate_of}
 use Rattle.board_seats.proofs.WordCodes.{rest_long}
+use Rattle.board_seats.specs.View.{IsOpen}
 
 -- A seat of a board is of the board's table, and knows what the board was opened with
 pub record IsOf (table id : TableId) (k : Known) (o : Opened) : Type 0 where
@@ -24,8 +25,8 @@ is_of {table = table} {id = id} {k = k} {o = o} view same board =
     }
 
 -- after a step that tells what the seat knows now
-pub open_after : {S : Type 0} {me after : Me S (Option Known)} {k : Known} → IsOpen me → after ≡ (Some k, me.1) → IsOpen after
-open_after live e = subst IsOpen (sym e) (refl, live.1)
+pub open_after : {S : Type 0} {me after : Me S (Option Known)} {k : Known} → IsOpen nobody me → after ≡ (Some k, me.1) → IsOpen nobody after
+open_after live e = subst (IsOpen nobody) (sym e) (refl, live.1)
 
 -- Where words stand.
 

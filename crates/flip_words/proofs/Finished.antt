@@ -1,5 +1,5 @@
 -- A board that is closed: all seats in one, and the mates that the words hold.
-use Rattle.std.proofs.Common.{◌≡◌, ◌∙◌, ℕ, zero, suc, ◌+◌, ◌-◌, ◌<◌, List, [], ◌∷◌, ◌++◌, Option, None, Some, flat_map, map, set, take, drop, length, get_or, refl, sym, ap, subst, ⊎_elim, arith, append_assoc, append-nil}
+use Rattle.std.proofs.Common.{◌≡◌, ◌∙◌, ℕ, zero, suc, ◌+◌, ◌-◌, ◌<◌, List, [], ◌∷◌, ◌++◌, Option, None, Some, flat_map, map, set, take, drop, length, get_or, refl, sym, ap, subst, ⊎_elim, arith}
 use Rattle.std.specs.List.Sorted.{IsPermutation}
 use Rattle.std.proofs.lemmas.List.{get_or-drop, length-append, length-drop, take_more, take_more_set}
 use mathlib.Core.Option.{some, some-injective, some-ne-none}
@@ -7,25 +7,23 @@ use lib.ListN.{get_elem?}
 use Rattle.atomic_table.specs.Seated.{TableId}
 use Rattle.atomic_table.specs.Table.{Final, Seen}
 use Rattle.bip_defs.specs.Lists.{Among}
-use Rattle.bip_defs.specs.Occurrences.{times}
 use Rattle.bip_defs.specs.WordValues.{held}
-use Rattle.bip_defs.proofs.Occurrences.{times_append}
-use Rattle.bip_defs.proofs.Sets.{among_either, among_last, among_left, among_right}
+use Rattle.bip_defs.proofs.Sets.{among_last}
 use Rattle.bip_graph.specs.Mates.{Mated}
 use Rattle.flip_words.specs.Accounts.{Settles}
 use Rattle.flip_words.specs.Board.{Board}
 use Rattle.flip_words.specs.WordCodes.{mate_of, mates_in, takers_in}
 use Rattle.flip_words.specs.Listed.{Listed, all_listed, followed_by, nothing}
-use Rattle.flip_words.specs.Rule.{Kept, Known, Opened, known, listed_by, opened_in}
+use Rattle.flip_words.specs.Rule.{Kept, Known, Opened, opened_in, nobody}
 use Rattle.flip_words.specs.ClosedBoards.{gathered, SettlesAll}
 use Rattle.flip_words.specs.Seat.{AreNumbered, IsRightful, Seat, first_seat, lists_of}
 use Rattle.flip_words.specs.Stored.{AreLeft, AreSized, board_in}
 use Rattle.flip_words.proofs.AccountLemmas.{sets_moved, takes_moved}
 use Rattle.board_seats.proofs.WordCodes.{rest_long, rest_read}
-use Rattle.board_seats.proofs.Flat.{among_turned, times_turned}
-use Rattle.board_seats.proofs.Numbered.{among_moved_seats, flat_last, numbered_last, times_moved_seats}
+use Rattle.board_seats.proofs.Flat.{among_turned, times_turned, flat_last}
+use Rattle.board_seats.proofs.Numbered.{among_moved_seats, numbered_last, times_moved_seats, IsGathering, listed_last}
 use Rattle.board_seats.proofs.SeatNumbers.{only_flat, only_seat}
-use Rattle.board_seats.specs.View.{AreSeated}
+use Rattle.board_seats.specs.View.{AreSeated, known_or, listed_or}
 
 -- one seat more has a property
 pub each_more : (P : Seat → Type 0) (seats : List Seat) (i : ℕ) (seat : Seat) → i < length seats → seat ≡ get_or seats i seat → ((s : Seat) → Among s (take i seats) → P s) → P seat → (s : Seat) → Among s (take (i + 1) seats) → P s
@@ -39,13 +37,13 @@ pub record IsJoined (b : Board) (whole : Listed) (others : List Seat) (first : S
   pub first_is : first ≡ first_seat b (1 + length others) first.listed
   pub lists : followed_by (all_listed (lists_of others)) first.listed ≡ whole
 
-last_first : (others : List Seat) (last : Seat) (m : Listed) → followed_by (all_listed (lists_of (others ++ last ∷ []))) m ≡ followed_by (all_listed (lists_of others)) (followed_by last.listed m)
-last_first others last m = λ i. record {
-  taken = flat_last (λ (k : Listed). k.taken) others last m.taken i;
-  seen = flat_last (λ (k : Listed). k.seen) others last m.seen i;
-  sets = flat_last (λ (k : Listed). k.sets) others last m.sets i;
-  looks = flat_last (λ (k : Listed). k.looks) others last m.looks i;
-}
+gathering : IsGathering followed_by all_listed
+gathering = record { last = λ ls l m. λ i. record {
+  taken = flat_last (λ (k : Listed). k.taken) ls l m.taken i;
+  seen = flat_last (λ (k : Listed). k.seen) ls l m.seen i;
+  sets = flat_last (λ (k : Listed). k.sets) ls l m.sets i;
+  looks = flat_last (λ (k : Listed). k.looks) ls l m.looks i;
+} }
 
 module _ {b : Board} {whole : Listed} {others : List Seat} {first : Seat} (rest : List Seat) (last : Seat) (j : IsJoined b whole others first) (popped : others ≡ rest ++ last ∷ []) where
   pub last_is : AreNumbered b 1 rest × (last.board ≡ b) × (last.number ≡ 1 + length rest)
@@ -58,13 +56,13 @@ module _ {b : Board} {whole : Listed} {others : List Seat} {first : Seat} (rest 
   joined_more is = subst (IsJoined b whole rest) (sym is) record {
     numbered = last_is.0;
     first_is = λ i. first_seat b (last_is.2 i) (followed_by last.listed first.listed);
-    lists = sym (last_first rest last first.listed) ∙ ap (λ ss. followed_by (all_listed (lists_of ss)) first.listed) (sym popped) ∙ j.lists;
+    lists = sym (listed_last gathering rest last first.listed) ∙ ap (λ ss. followed_by (all_listed (lists_of ss)) first.listed) (sym popped) ∙ j.lists;
   }
 
 -- The words that are left.
 
 -- where the seat 0 is the only one, its lists are all that there are
-alone : {o : Opened} {views : List (Option Known)} → AreSeated o views → (id : ℕ) (k : Known) → get_elem? views id ≡ some (Some k) → k.number ≡ 0 → k.seats ≡ 1 → all_listed (map listed_by views) ≡ k.listed
+alone : {o : Opened} {views : List (Option Known)} → AreSeated o views → (id : ℕ) (k : Known) → get_elem? views id ≡ some (Some k) → k.number ≡ 0 → k.seats ≡ 1 → all_listed (map (listed_or nothing) views) ≡ k.listed
 alone {views = views} a id k at zeroth one = λ i. record {
   taken = only_flat nothing (λ (l : Listed). l.taken) refl views id k at (only_seat a id k at zeroth one) i;
   seen = only_flat nothing (λ (l : Listed). l.seen) refl views id k at (only_seat a id k at zeroth one) i;
@@ -72,12 +70,12 @@ alone {views = views} a id k at zeroth one = λ i. record {
   looks = only_flat nothing (λ (l : Listed). l.looks) refl views id k at (only_seat a id k at zeroth one) i;
 }
 
-pub left : {S : Type 0} (table : TableId) (rows cols : ℕ) (opened : List ℕ) (id : ℕ) (v : Option Known) (words : List ℕ) (homes : List S) → Final (Seen (Kept rows cols opened) id v) words homes → v ≡ Some (known v) → (known v).number ≡ 0 → (known v).seats ≡ 1
-    → length opened ≡ 1 + cols + (rows + cols) → AreLeft (board_in table (opened_in rows cols opened)) (known v).listed words
+pub left : {S : Type 0} (table : TableId) (rows cols : ℕ) (opened : List ℕ) (id : ℕ) (v : Option Known) (words : List ℕ) (homes : List S) → Final (Seen (Kept rows cols opened) id v) words homes → v ≡ Some (known_or nobody v) → (known_or nobody v).number ≡ 0 → (known_or nobody v).seats ≡ 1
+    → length opened ≡ 1 + cols + (rows + cols) → AreLeft (board_in table (opened_in rows cols opened)) (known_or nobody v).listed words
 left table rows cols opened id v words homes final live zeroth one many = record {
   as_many = ap length (sym final.2) ∙ final.1.0.as_many ∙ many;
-  settles = subst (λ ws. Settles cols (mates_in cols opened) (takers_in cols ws) (mates_in cols ws) (known v).listed) final.2
-      (subst (Settles cols (mates_in cols opened) (takers_in cols final.0.words) (mates_in cols final.0.words)) (alone final.1.0.seats id (known v) (final.1.1 ∙ ap some live) zeroth one) final.1.0.settles);
+  settles = subst (λ ws. Settles cols (mates_in cols opened) (takers_in cols ws) (mates_in cols ws) (known_or nobody v).listed) final.2
+      (subst (Settles cols (mates_in cols opened) (takers_in cols final.0.words) (mates_in cols final.0.words)) (alone final.1.0.seats id (known_or nobody v) (final.1.1 ∙ ap some live) zeroth one) final.1.0.settles);
 }
 
 -- Their mates.

@@ -1,28 +1,24 @@
 -- A board as it is opened.
-use Rattle.std.proofs.Common.{◌≡◌, ◌∙◌, ◌⊎◌, ℕ, zero, suc, ◌+◌, ◌-◌, ◌<◌, ◌≤◌, ◌==◌, if◌then◌else◌, List, [], ◌∷◌, ◌++◌, Option, None, Some, map, replicate, drop, length, slice_index, refl, sym, ap, subst, ⊎_elim, arith}
+use Rattle.std.proofs.Common.{◌≡◌, ◌∙◌, ◌⊎◌, ℕ, ◌+◌, ◌-◌, ◌<◌, ◌≤◌, List, [], ◌∷◌, ◌++◌, Option, None, map, replicate, drop, length, slice_index, refl, sym, ap, subst, ⊎_elim, arith}
 use Rattle.std.proofs.lemmas.List.{get_or-map, get_or-replicate, get_or_past, length-append, length-map, length-replicate}
-use Rattle.std.proofs.lemmas.List.Sums.{sum_by-cons}
 use Rattle.std.proofs.Math.ListN.{get_or-append}
 use Rattle.std.proofs.Math.Seq.{drop-append_seam}
-use mathlib.Core.Option.{some, some-injective, some-ne-none}
-use lib.ListN.{get_elem?}
 use Rattle.atomic_table.specs.Seated.{TableId}
 use Rattle.atomic_table.specs.Table.{opening}
-use Rattle.bip_defs.specs.Occurrences.{below}
 use Rattle.bip_defs.specs.WordValues.{held, value_of}
-use Rattle.bip_defs.proofs.Occurrences.{one_else}
 use Rattle.bip_graph.specs.Matching.{Pairing}
 use Rattle.flip_words.specs.Accounts.{is_held}
 use Rattle.flip_words.specs.Board.{Board, IsOpenedFrom}
 use Rattle.flip_words.specs.WordCodes.{mate_of, mates_in, takers_in, tree_of, trees_in}
 use Rattle.flip_words.specs.Listed.{nothing}
 use Rattle.flip_words.specs.OpenedBoards.{AreLaid, AreOpening, IsMateIn}
-use Rattle.flip_words.specs.Rule.{Kept, SetsItsOwn, listed_by, opened_in, opener}
+use Rattle.flip_words.specs.Rule.{Kept, SetsItsOwn, opened_in, opener}
 use Rattle.flip_words.specs.Seat.{first_seat, more_seats, new_seat}
 use Rattle.flip_words.specs.Stored.{board_in}
 use Rattle.board_seats.proofs.WordCodes.{first_read, firsts_long}
 use Rattle.board_seats.proofs.Numbered.{more_last}
 use Rattle.board_seats.proofs.SeatNumbers.{only_view, seated_alone}
+use Rattle.board_seats.specs.View.{listed_or}
 
 pub kept_opening : {S : Type 0} (rows cols : ℕ) (words : List ℕ) → AreOpening rows cols words → Kept rows cols words (opening {S = S} words [] (opener rows cols words))
 kept_opening rows cols words a = record {
@@ -40,7 +36,7 @@ kept_opening rows cols words a = record {
     seen = λ root number h. elim h [ ];
     sets = record { as_many = refl; stands = λ v mate h. elim h [ ]; stays = λ v none. refl; once = λ v. omega arith };
   };
-  owners = λ id v at. subst (λ w. SetsItsOwn (trees_in cols words) (listed_by w)) (only_view id v at) (λ vertex mate h. elim h [ ]);
+  owners = λ id v at. subst (λ w. SetsItsOwn (trees_in cols words) (listed_or nothing w)) (only_view id v at) (λ vertex mate h. elim h [ ]);
 }
   where
     below_or : (i n : ℕ) → (i < n) ⊎ (n ≤ i)
@@ -83,8 +79,8 @@ module _ (m : Pairing) (trees : List (Option ℕ)) (words : List ℕ) (a : AreLa
 
 -- New seats.
 
-pub seats_more : (b : Board) (n : ℕ) → 1 ≤ n → first_seat b (1 + n) nothing ∷ (more_seats b 1 (n - 1) ++ new_seat b n ∷ []) ≡ first_seat b (n + 1) nothing ∷ more_seats b 1 (n + 1 - 1)
-seats_more b n least = λ i. first_seat b (count i) nothing ∷ (sym (more_last nothing b 1 (n - 1) ∙ ap (λ m. more_seats b 1 (n - 1) ++ new_seat b m ∷ []) last) ∙ ap (more_seats b 1) same) i
+pub seats_more : (b : Board) (n : ℕ) → 1 ≤ n → first_seat b (1 + n) nothing ∷ (more_seats nothing b 1 (n - 1) ++ new_seat b n ∷ []) ≡ first_seat b (n + 1) nothing ∷ more_seats nothing b 1 (n + 1 - 1)
+seats_more b n least = λ i. first_seat b (count i) nothing ∷ (sym (more_last nothing b 1 (n - 1) ∙ ap (λ m. more_seats nothing b 1 (n - 1) ++ new_seat b m ∷ []) last) ∙ ap (more_seats nothing b 1) same) i
   where
     count : 1 + n ≡ n + 1
     count = omega arith

@@ -1,14 +1,11 @@
 -- What is told of the seats of a board.
-use Rattle.std.proofs.Common.{◌≡◌, ◌∙◌, ℕ, zero, suc, ◌+◌, ◌<◌, ◌≤◌, List, [], ◌∷◌, ◌++◌, None, Some, flat_map, length, refl, sym, ap, subst, inl, inr, ⊎_elim, arith}
-use Rattle.std.specs.List.{AllZip}
+use Rattle.std.proofs.Common.{◌≡◌, ◌∙◌, ℕ, ◌+◌, ◌<◌, List, ◌++◌, None, Some, flat_map, sym, ap, subst, arith}
 use Rattle.std.proofs.lemmas.List.{get_or-append-add}
-use Rattle.std.proofs.lemmas.Slice.Zip.{AllZip-long}
 use Rattle.std.proofs.Math.ListN.{get_or-append}
 use Rattle.std.proofs.lemmas.Option.{same_Some}
 use Rattle.bip_defs.specs.Lists.{Among, option_at}
 use Rattle.bip_defs.specs.Occurrences.{times}
 use Rattle.bip_defs.specs.WordValues.{held}
-use Rattle.bip_defs.proofs.Sets.{among_either, among_left, among_right}
 use Rattle.bip_graph.specs.Mates.{Mated}
 use Rattle.flip_words.specs.Accounts.{is_held}
 use Rattle.flip_words.specs.Board.{Board, col_vertex}

@@ -7,7 +7,7 @@ use Rattle.atomic_table.specs.Table.{State}
 use Rattle.bip_defs.specs.Lists.{Among}
 use Rattle.bip_defs.specs.WordValues.{held}
 use Rattle.board_seats.specs.View as views
-use Rattle.board_seats.specs.View.{AreSeated}
+use Rattle.board_seats.specs.View.{AreSeated, listed_or}
 use Rattle.flip_words.specs.Accounts.{Settles}
 use Rattle.flip_words.specs.WordCodes.{half, mates_in, takers_in, trees_in}
 use Rattle.flip_words.specs.Listed.{Listed, all_listed, nothing}
@@ -41,12 +41,6 @@ nobody = record {
   listed = nothing;
 }
 
-abbrev pub known : Option Known → Known
-known = views.known_or nobody
-
-abbrev pub listed_by : Option Known → Listed
-listed_by = views.listed_or nothing
-
 -- the vertex is of a tree that is listed as taken
 abbrev pub IsOfTaken : List (Option ℕ) → Listed → ℕ → Type 0
 IsOfTaken trees l vertex = (root : ℕ) × (number : ℕ) × (held trees vertex ≡ Some root)
@@ -67,9 +61,9 @@ pub record Kept {S : Type 0} (rows cols : ℕ) (opened : List ℕ)
   pub trees : trees_in cols s.words ≡ trees_in cols opened
   pub seats : AreSeated (opened_in rows cols opened) s.views
   pub settles : Settles cols (mates_in cols opened) (takers_in cols s.words) (mates_in cols s.words)
-      (all_listed (map listed_by s.views))
+      (all_listed (map (listed_or nothing) s.views))
   pub owners : (id : ℕ) (v : Option Known) → get_elem? s.views id ≡ some v
-      → SetsItsOwn (trees_in cols opened) (listed_by v)
+      → SetsItsOwn (trees_in cols opened) (listed_or nothing v)
 
 -- the first seat of a board that is opened with these words
 abbrev pub opener : ℕ → ℕ → List ℕ → Option Known

@@ -5,7 +5,7 @@ use Rattle.bip_defs.specs.WordValues.{held}
 use Rattle.board_seats.specs.Seat as seats
 use Rattle.flip_words.specs.Board.{Board}
 use Rattle.flip_words.specs.Listed.{Listed, looked, nothing, put, took}
-pub use Rattle.board_seats.specs.Seat.{AreAllSeats, AreNumbered, HoldsAllSeats, IsSameSeat, first_seat, lists_of, with_listed}
+pub use Rattle.board_seats.specs.Seat.{AreAllSeats, AreNumbered, HoldsAllSeats, IsSameSeat, first_seat, lists_of, more_seats, with_listed}
 
 abbrev pub Seat : Type 0
 Seat = seats.Seat Board Listed
@@ -54,13 +54,10 @@ pub record IsRightful (s : Seat) : Type 0 where
   pub taken : (root number : ℕ) → Among (root, number) s.listed.taken → number ≡ s.number
   pub sets : (vertex mate : ℕ) → HasSetTo s vertex mate → TookTreeOf s vertex
 
--- New seats, which list nothing yet: one, so many from a number on, and all of a board.
+-- New seats, which list nothing yet: one, and all of a board.
 
 abbrev pub new_seat : Board → ℕ → Seat
 new_seat = seats.new_seat nothing
-
-abbrev pub more_seats : Board → ℕ → ℕ → List Seat
-more_seats = seats.more_seats nothing
 
 abbrev pub new_seats : Board → ℕ → List Seat
 new_seats = seats.new_seats nothing

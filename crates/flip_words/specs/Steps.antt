@@ -1,11 +1,10 @@
--- What each kind of step tells its seat, and what a split and a join do to views.
+-- What each kind of step tells its seat.
 use Rattle.std.specs.Prelude.{◌≡◌, ◌⊎◌, ℕ, ◌+◌, ◌-◌, ◌%◌, ◌≤◌, Option, Some}
 use Rattle.atomic_table.specs.Table.{Me, Step}
 use Rattle.bip_defs.specs.Lists.{Among}
 use Rattle.bip_defs.specs.WordValues.{held, value_of}
-use Rattle.board_seats.specs.View as views
 use Rattle.flip_words.specs.WordCodes.{half, mate_of}
-use Rattle.flip_words.specs.Listed.{Listed, followed_by, looked, nothing, put, took}
+use Rattle.flip_words.specs.Listed.{looked, put, took}
 use Rattle.flip_words.specs.Rule.{IsOfTaken, Known}
 pub use Rattle.board_seats.specs.View.{counting_more, knowing}
 
@@ -44,11 +43,3 @@ module _ {S : Type 0} where
   abbrev pub TellsLook : Step S → Me S (Option Known) → ℕ → Me S (Option Known) → Type 0
   TellsLook st before found after = (k : Known) (vertex : ℕ) → before.0 ≡ Some k
       → st.word ≡ 1 + k.opened.cols + vertex → TellsMate k vertex found before after
-
--- a seat that is split off, and the lists of one that is taken in before those of the seat 0
-
-abbrev pub newcomer : Option Known → Option Known
-newcomer = views.newcomer nothing
-
-abbrev pub joined : Option Known → Option Known → Option Known
-joined = views.joined followed_by

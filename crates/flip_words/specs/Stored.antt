@@ -1,13 +1,12 @@
 -- How a board and a seat are stored.
-use Rattle.std.specs.Prelude.{◌≡◌, ℕ, ◌+◌, ◌<◌, ◌^◌, List, [], Option, Some, length}
+use Rattle.std.specs.Prelude.{◌≡◌, ℕ, ◌+◌, ◌<◌, ◌^◌, List, length}
 use Rattle.atomic_table.specs.Seated.{TableId}
-use Rattle.atomic_table.specs.Table.{Me}
 use Rattle.bip_graph.specs.Mates.{Mated}
 use Rattle.flip_words.specs.Accounts.{Settles}
 use Rattle.flip_words.specs.Board.{Board}
 use Rattle.flip_words.specs.WordCodes.{mates_in, takers_in}
 use Rattle.flip_words.specs.Listed.{Listed}
-use Rattle.flip_words.specs.Rule.{Known, Opened, known}
+use Rattle.flip_words.specs.Rule.{Known, Opened}
 use Rattle.flip_words.specs.Seat.{Seat}
 
 -- a board in this table
@@ -22,10 +21,6 @@ shown id k = record {
   seats = k.seats;
   listed = k.listed;
 }
-
--- a seat that was not joined to another, and holds no slot
-abbrev pub IsOpen : {S : Type 0} → Me S (Option Known) → Type 0
-IsOpen me = (me.0 ≡ Some (known me.0)) × (me.1 ≡ [])
 
 -- The table has the words with which it was opened: the spare word, those of so many trees, and
 -- those of so many rows and columns

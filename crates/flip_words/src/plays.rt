@@ -2,7 +2,9 @@
 
 ghost use Rattle.std.specs.Prelude.{None};
 ghost use Rattle.flip_words.specs.Rule.{Kept, opener};
-ghost use Rattle.flip_words.specs.Steps.{TellsLook, TellsSet, TellsTake, counting_more, joined, newcomer};
+ghost use Rattle.flip_words.specs.Steps.{TellsLook, TellsSet, TellsTake, counting_more};
+ghost use Rattle.board_seats.specs.View.{joined, newcomer};
+ghost use Rattle.flip_words.specs.Listed.{followed_by, nothing};
 
 use crate::views::{Opening, View};
 use atomic_table::{Join, Play, Split, TableRule};
@@ -43,14 +45,14 @@ pub struct Newcomer;
 impl Split<View> for Newcomer {
     ghost left = { counting_more };
 
-    ghost right = { newcomer };
+    ghost right = { newcomer nothing };
 }
 
 // The seat 0 takes in the seat with the highest number.
 pub struct TakesIn;
 
 impl Join<View> for TakesIn {
-    ghost both = { joined };
+    ghost both = { joined followed_by };
 
     ghost spent = { None };
 }

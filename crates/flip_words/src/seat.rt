@@ -19,12 +19,13 @@ impl Model for TableSeat {
 
     ghost Value = { model.Seat };
 
-    ghost use Rattle.flip_words.specs.Rule.{known};
-    ghost use Rattle.flip_words.specs.Stored.{IsOpen, shown};
+    ghost use Rattle.board_seats.specs.View.{IsOpen, known_or};
+    ghost use Rattle.flip_words.specs.Rule.{nobody};
+    ghost use Rattle.flip_words.specs.Stored.{shown};
 
-    ghost view = { λ s. shown s.seat.table_id (known s.seat.me.0) };
+    ghost view = { λ s. shown s.seat.table_id (known_or nobody s.seat.me.0) };
 
-    ghost invariant = { λ s. IsOpen s.seat.me };
+    ghost invariant = { λ s. IsOpen nobody s.seat.me };
 }
 
 /// A seat at a board, with which one thread takes trees, sets vertices and looks at them. Its lists

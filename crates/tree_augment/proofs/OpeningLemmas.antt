@@ -8,6 +8,7 @@ use Rattle.bip_defs.specs.WordValues.{held}
 use Rattle.flip_words.specs.Board.{AreTrees, Board, IsOpenedFrom, col_vertex}
 use Rattle.forest_core.specs.Current.{base_of}
 use Rattle.forest_core.specs.Stored.{AreColTrees, AreRowTrees}
+use Rattle.flip_words.specs.Listed.{nothing}
 use Rattle.flip_words.specs.Seat.{Seat, more_seats, new_seats}
 use Rattle.tree_augment.specs.Augmented.{HaveTakenNone}
 use Rattle.tree_augment.specs.ForestBoards.{IsBoardOf}
@@ -33,7 +34,7 @@ opened_board {s = s} {b = b} rows_are cols_are o long row_is col_is = record {
 
 -- New seats.
 
-more_taken_none : (b : Board) (n count : ℕ) → HaveTakenNone (more_seats b n count)
+more_taken_none : (b : Board) (n count : ℕ) → HaveTakenNone (more_seats nothing b n count)
 more_taken_none b n zero t h = absurd h
 more_taken_none b n (suc count) t (inl e) = ap (λ (u : Seat). u.listed.taken) e
 more_taken_none b n (suc count) t (inr h) = more_taken_none b (1 + n) count t h

@@ -3,12 +3,13 @@ use Rattle.bip_defs.specs.Lists.{Among}
 use Rattle.bip_defs.specs.WordValues.{held}
 use Rattle.flip_words.specs.Board.{Board}
 use Rattle.flip_words.specs.WordCodes.{mates_in}
-use Rattle.flip_words.specs.Rule.{known}
+use Rattle.flip_words.specs.Rule.{nobody}
 use Rattle.flip_words.specs.Seat.{Seat}
 use Rattle.flip_words.specs.Steps.{TellsMate}
 use Rattle.flip_words.proofs.StepRules.{allows_look}
 use Rattle.flip_words.proofs.Boards.{is_of, never_set, of_taken, open_after, vertex_place, vertex_word_is}
 use Rattle.flip_words.proofs.board.FlipBoard.load.Goals as goal
+use Rattle.board_seats.specs.View.{known_or}
 
 pub load-requires : goal.load-requires
 load-requires c =
@@ -16,8 +17,8 @@ load-requires c =
     let lt : c.args.vertex < length (mates_in c.self.inside.table.shared.key.cols c.self.inside.table.shared.key.words.value.items) = subst (λ (b : Board). c.args.vertex < length b.mates) (sym c.self.view_is) c.requires.vertex in
     (of.same_table, vertex_place c.self.invariant c.args.vertex lt, allows_look _ _ _ _ _ _ c.seat.invariant c.self.inside.cols c.args.vertex c.self.invariant.cols_known lt)
 
-fact : (c : goal.After-mate) → TellsMate (known c.seat.inside.seat.me.0) c.args.vertex c.load.result c.seat.inside.seat.me c.load.new.seat.me
-fact c = c.load.ensures.2 (known c.seat.inside.seat.me.0) c.args.vertex c.seat.invariant.0 (vertex_word_is (is_of c.seat.view_is c.requires.seat c.self.view_is) c.self.invariant.cols_known c.args.vertex)
+fact : (c : goal.After-mate) → TellsMate (known_or nobody c.seat.inside.seat.me.0) c.args.vertex c.load.result c.seat.inside.seat.me c.load.new.seat.me
+fact c = c.load.ensures.2 (known_or nobody c.seat.inside.seat.me.0) c.args.vertex c.seat.invariant.0 (vertex_word_is (is_of c.seat.view_is c.requires.seat c.self.view_is) c.self.invariant.cols_known c.args.vertex)
 
 pub invariant_of-seat : goal.invariant_of-seat
 invariant_of-seat c = open_after c.seat.invariant (fact c).after_is

@@ -5,4 +5,4 @@ use Rattle.flip_words.proofs.board.FlipBoard.split_off.Given as goal
 
 pub record invariant-loop-number (l : goal.Live-loop-number) : Type 0 where
   pub some : 1 ≤ l.number
-  pub seats : l.all.items ≡ first_seat l.self l.number nothing ∷ more_seats l.self 1 (l.number - 1)
+  pub seats : l.all.items ≡ first_seat l.self l.number nothing ∷ more_seats nothing l.self 1 (l.number - 1)
