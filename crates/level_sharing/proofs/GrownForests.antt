@@ -99,18 +99,18 @@ leaves l t x r m =
     leaf_for l x r by.worker t by.one_of (by.has.progress.leaves x r (subst (λ (ps : List (ℕ × ℕ)). Among (x, r) ps) (fresh_wins_are l.forest (l.own by.number) by.was by.worker by.has) by.lists))
 
 pub new_claims_of : (l : Level) → WordsTell l → AreNew l.forest.claims (fresh_claims_of l.gathered)
-new_claims_of l t = subst (λ (ps : List Place). AreNew l.forest.claims ps) (sym t.same_claims) t.new_claims
+new_claims_of l t = subst (λ (ps : List Place). AreNew l.forest.claims ps) (sym t.same_claims) t.fresh.new_claims
 
 pub new_wins_of : (l : Level) → WordsTell l → AreNew l.forest.leaves (fresh_wins_of l.gathered)
-new_wins_of l t = subst (λ (ps : List (ℕ × ℕ)). AreNew l.forest.leaves ps) (sym t.same_wins) t.new_wins
+new_wins_of l t = subst (λ (ps : List (ℕ × ℕ)). AreNew l.forest.leaves ps) (sym t.same_wins) t.fresh.new_wins
 
 pub shown : (l : Level) → WordsTell l → Shows l.board l.gathered (forest_after l).claims (forest_after l).leaves
 shown l t = record {
   all_workers = l.all_workers;
   words = l.words;
   listed = l.settles_gathered;
-  rows = subst (λ (ps : List Place). HoldThese (l.forest.claims ++ ps) l.words.rows) (sym t.same_claims) t.rows;
-  roots = subst (λ (ps : List (ℕ × ℕ)). HoldThese (l.forest.leaves ++ ps) l.words.roots) (sym t.same_wins) t.roots;
+  rows = subst (λ (ps : List Place). HoldThese (l.forest.claims ++ ps) l.words.rows) (sym t.same_claims) t.fresh.rows;
+  roots = subst (λ (ps : List (ℕ × ℕ)). HoldThese (l.forest.leaves ++ ps) l.words.roots) (sym t.same_wins) t.fresh.roots;
 }
 
 -- What a worker knows is so after the level.
@@ -120,13 +120,13 @@ seat_among w ws m = among_map (λ (z : WorkerState). z.seat) w ws m
 
 holder_stands : (l : Level) (w : WorkerState) (r : ℕ) → WordsTell l → Among w l.after → KnowsHolder w r → Among r (rows_of (forest_after l).claims)
 holder_stands l w r t m (c, k) =
-    let held_by = t.row_known w.seat r c (seat_among w l.after m) (board_of l.board w l.after t.all m) k in
-    subst (λ (ps : List Place). Among r (rows_of (l.forest.claims ++ ps))) (sym t.same_claims) (row_among r c (l.forest.claims ++ fresh_claims_of l.after) ((t.rows r c).0 held_by))
+    let held_by = t.known.rows w.seat r c (seat_among w l.after m) (board_of l.board w l.after t.all m) k in
+    subst (λ (ps : List Place). Among r (rows_of (l.forest.claims ++ ps))) (sym t.same_claims) (row_among r c (l.forest.claims ++ fresh_claims_of l.after) ((t.fresh.rows r c).0 held_by))
 
 leaf_stands : (l : Level) (w : WorkerState) (x r : ℕ) → WordsTell l → Among w l.after → KnowsRoot w.seat x r → Among x (roots_of (forest_after l).leaves)
 leaf_stands l w x r t m k =
-    let won_by = t.root_known w.seat x r (seat_among w l.after m) (board_of l.board w l.after t.all m) k in
-    subst (λ (ps : List (ℕ × ℕ)). Among x (roots_of (l.forest.leaves ++ ps))) (sym t.same_wins) (among_map (λ (p : ℕ × ℕ). p.0) (x, r) (l.forest.leaves ++ fresh_wins_of l.after) ((t.roots x r).0 won_by))
+    let won_by = t.known.roots w.seat x r (seat_among w l.after m) (board_of l.board w l.after t.all m) k in
+    subst (λ (ps : List (ℕ × ℕ)). Among x (roots_of (l.forest.leaves ++ ps))) (sym t.same_wins) (among_map (λ (p : ℕ × ℕ). p.0) (x, r) (l.forest.leaves ++ fresh_wins_of l.after) ((t.fresh.roots x r).0 won_by))
 
 won_stands : (l : Level) (w : WorkerState) (c : ℕ) → WordsTell l → Among w l.after → KnowsWon l.forest w c → HasWon (forest_after l) c
 won_stands l w c t m (x, root, (r, k)) = (x, root_grows l.forest.base l.forest.claims (fresh_claims_of l.gathered) x c root, leaf_stands l w x r t m k)

@@ -1,6 +1,8 @@
 -- When a board of words and its workers agree with the claims and the leaves of a forest.
-use Rattle.std.specs.Prelude.{◌≡◌, ◌↔◌, ◌⊎◌, ℕ, List, [], Option, Some}
-use Rattle.bip_defs.specs.Lists.{Among}
+use Rattle.std.specs.Prelude.{◌≡◌, ◌↔◌, ◌⊎◌, ℕ, List, [], ◌++◌, Option, Some, length}
+use Rattle.bip_defs.specs.Forest.{State}
+use Rattle.bip_defs.specs.Lists.{Among, AreNew}
+use Rattle.bip_defs.specs.Matrix.{cols}
 use Rattle.bip_defs.specs.WordValues.{held}
 use Rattle.claim_words.specs.Board.{Board, Words}
 use Rattle.claim_words.specs.Settles.{SettlesAll}
@@ -38,3 +40,17 @@ pub record Shows (b : Board) (ws : List WorkerState) (claims leaves : List (ℕ 
   pub listed : SettlesAll b words (seats_of ws)
   pub rows : HoldThese claims words.rows
   pub roots : HoldThese leaves words.roots
+
+-- What the workers list since they were settled is new: claims of rows that were unclaimed, each
+-- once, and wins of roots without a leaf, each once. The words hold these claims and these leaves
+-- with what was listed, and nothing else
+pub record HaveFresh (words : Words) (ws : List WorkerState) (claims leaves : List (ℕ × ℕ)) : Type 0 where
+  pub new_claims : AreNew claims (fresh_claims_of ws)
+  pub new_wins : AreNew leaves (fresh_wins_of ws)
+  pub rows : HoldThese (claims ++ fresh_claims_of ws) words.rows
+  pub roots : HoldThese (leaves ++ fresh_wins_of ws) words.roots
+
+-- the board has a word for each row of the forest's matrix, and one for each column
+pub record IsSized (s : State) (b : Board) : Type 0 where
+  pub rows : length b.rows ≡ s.matrix.rows
+  pub roots : length b.roots ≡ cols s.matrix

@@ -4,17 +4,26 @@ use Rattle.bip_defs.specs.Forest.{State}
 use Rattle.bip_defs.specs.Lists.{Among}
 use Rattle.claim_words.specs.Board.{Board}
 use Rattle.claim_words.specs.WorkerState.{WorkerState}
-use Rattle.level_sharing.specs.Progress.{CanClaim, KnowsHolder, KnowsLeaf}
+use Rattle.level_sharing.specs.Agreement.{IsSized}
+use Rattle.level_sharing.specs.Progress.{CanClaim, HasSettled, KnowsHolder, KnowsLeaf, KnowsWon}
 use Rattle.level_sharing.specs.Shares.{Share}
 use Rattle.level_sharing.specs.declared.candidate.Candidate.{Candidate}
 
+-- a worker may claim it
+abbrev pub CanTake : State → Share → Candidate → Type 0
+CanTake s own x = CanClaim s own x.row x.col x.root x.free
+
+-- the board has its words
+abbrev pub IsOnBoard : Board → Candidate → Type 0
+IsOnBoard b x = (x.row < length b.rows) × (x.root < length b.roots)
+
 -- a worker may claim each of these
 abbrev pub AreCandidates : State → Share → List Candidate → Type 0
-AreCandidates s own xs = (x : Candidate) → Among x xs → CanClaim s own x.row x.col x.root x.free
+AreCandidates s own xs = (x : Candidate) → Among x xs → CanTake s own x
 
 -- the board has their words
 abbrev pub AreOnBoard : Board → List Candidate → Type 0
-AreOnBoard b xs = (x : Candidate) → Among x xs → (x.row < length b.rows) × (x.root < length b.roots)
+AreOnBoard b xs = (x : Candidate) → Among x xs → IsOnBoard b x
 
 -- the worker knows a holder of the row, or a leaf of the root
 abbrev pub IsDecided : WorkerState → ℕ → ℕ → Type 0
@@ -24,3 +33,24 @@ IsDecided w row root = KnowsHolder w row ⊎ KnowsLeaf w root
 abbrev pub IsCovered : WorkerState → List Candidate → ℕ → ℕ → Type 0
 IsCovered w xs row root = IsDecided w row root
     ⊎ ((x : Candidate) × Among x xs × (x.row ≡ row) × (x.root ≡ root))
+
+-- from one state of a worker to a later one: what it knew it knows still
+pub record Remembers (s : State) (v w : WorkerState) : Type 0 where
+  pub holder : (r : ℕ) → KnowsHolder v r → KnowsHolder w r
+  pub leaf : (x : ℕ) → KnowsLeaf v x → KnowsLeaf w x
+  pub won : (c : ℕ) → KnowsWon s v c → KnowsWon s w c
+  pub decided : (r x : ℕ) → IsDecided v r x → IsDecided w r x
+  pub covered : (xs : List Candidate) (r x : ℕ) → IsCovered v xs r x → IsCovered w xs r x
+
+-- what a worker's search goes over: a board for the forest, and columns or rows that are each so
+pub record IsSearch (s : State) (b : Board) (IsSo : ℕ → Type 0) (share : List ℕ) : Type 0 where
+  pub sized : IsSized s b
+  pub each : (i : ℕ) → Among i share → IsSo i
+
+-- a worker with a seat of the board, which has settled what it has claimed, and candidates that are
+-- each so
+pub record HasGathered (s : State) (b : Board) (IsSo : Candidate → Type 0) (w : WorkerState)
+    (xs : List Candidate) : Type 0 where
+  pub seat : w.seat.board ≡ b
+  pub settled : HasSettled s w
+  pub each : (x : Candidate) → Among x xs → IsSo x

@@ -1,13 +1,10 @@
 -- A level: each worker has made some progress, and then their seats were gathered.
-use Rattle.std.specs.Prelude.{◌≡◌, ℕ, List, ◌++◌, length, Some}
+use Rattle.std.specs.Prelude.{◌≡◌, ℕ, List, length}
 use Rattle.bip_defs.specs.Forest.{State}
-use Rattle.bip_defs.specs.Lists.{Among, AreNew}
-use Rattle.bip_defs.specs.WordValues.{held}
 use Rattle.claim_words.specs.Board.{Board, Words}
-use Rattle.claim_words.specs.Seat.{KnowsRoot, KnowsRow, Seat}
-use Rattle.claim_words.specs.Settles.{SettlesAll}
+use Rattle.claim_words.specs.Settles.{KnowWords, SettlesAll}
 use Rattle.claim_words.specs.WorkerState.{AreAllWorkers, WorkerState, fresh_claims_of, fresh_lists, fresh_wins_of, seats_of}
-use Rattle.level_sharing.specs.Agreement.{Agree, HoldThese}
+use Rattle.level_sharing.specs.Agreement.{Agree, HaveFresh}
 use Rattle.level_sharing.specs.Each.{EachPairFrom}
 use Rattle.level_sharing.specs.Growth.{grown}
 use Rattle.level_sharing.specs.Progress.{IsThroughColumns, IsThroughRows, Progress}
@@ -68,14 +65,8 @@ pub record WordsTell (l : Level) : Type 0 where
   pub all : AreAllWorkers l.board l.after
   pub same_claims : fresh_claims_of l.gathered ≡ fresh_claims_of l.after
   pub same_wins : fresh_wins_of l.gathered ≡ fresh_wins_of l.after
-  pub new_claims : AreNew l.forest.claims (fresh_claims_of l.after)
-  pub new_wins : AreNew l.forest.leaves (fresh_wins_of l.after)
-  pub rows : HoldThese (l.forest.claims ++ fresh_claims_of l.after) l.words.rows
-  pub roots : HoldThese (l.forest.leaves ++ fresh_wins_of l.after) l.words.roots
-  pub row_known : (v : Seat) (row col : ℕ) → Among v (seats_of l.after) → v.board ≡ l.board
-      → KnowsRow v row col → held l.words.rows row ≡ Some col
-  pub root_known : (v : Seat) (root leaf : ℕ) → Among v (seats_of l.after) → v.board ≡ l.board
-      → KnowsRoot v root leaf → held l.words.roots root ≡ Some leaf
+  pub fresh : HaveFresh l.words l.after l.forest.claims l.forest.leaves
+  pub known : KnowWords l.board l.words (seats_of l.after)
 
 -- the forest that the level leaves
 abbrev pub forest_after : Level → State

@@ -25,6 +25,16 @@ pub record Progress (s : State) (own : Share) (v w : WorkerState) : Type 0 where
   pub entries : (r c : ℕ) → Among (r, c) more.claims → IsEntry s.matrix r c × InForest s c
   pub leaves : (x r : ℕ) → Among (x, r) more.wins → IsLeafFor s w x r
 
+-- a claim of the worker's own share that is legal in the forest
+pub record IsOwnClaim (s : State) (own : Share) (r c : ℕ) : Type 0 where
+  pub is_own : IsOwn own (r, c)
+  pub entry : IsEntry s.matrix r c
+  pub inside : InForest s c
+
+-- a step of any worker, whatever its share, is progress
+abbrev pub IsProgress : (WorkerState → WorkerState) → Type 0
+IsProgress after = (s : State) (own : Share) (w : WorkerState) → Progress s own w (after w)
+
 -- the worker knows of a column that holds the row, or of a leaf of the root
 abbrev pub KnowsHolder : WorkerState → ℕ → Type 0
 KnowsHolder w r = (c : ℕ) × KnowsRow w.seat r c

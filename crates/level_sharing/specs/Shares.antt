@@ -19,6 +19,10 @@ abbrev pub IsOwn : Share → Place → Type 0
 IsOwn (by_columns cols) p = Among p.1 cols
 IsOwn (of_rows rows) p = Among p.0 rows
 
+-- what is of the one share is of the other
+abbrev pub IsWithin : Share → Share → Type 0
+IsWithin own wide = (r c : ℕ) → IsOwn own (r, c) → IsOwn wide (r, c)
+
 -- each fresh claim of a worker is of its own, and each of its fresh wins has the row of one of its
 -- own fresh claims as leaf
 pub record KeepsTo (own : Share) (w : WorkerState) : Type 0 where

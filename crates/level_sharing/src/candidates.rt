@@ -1,9 +1,9 @@
 //! Rows that a worker may claim, gathered before any of them is claimed.
 
-ghost use Rattle.std.specs.Prelude.{◌≡◌, ℕ, ◌<◌, length, OnOk};
+ghost use Rattle.std.specs.Prelude.{◌≡◌, ℕ, OnOk};
 ghost use Rattle.bip_defs.specs.Forest.{State};
-ghost use Rattle.level_sharing.specs.Candidates.{AreCandidates, AreOnBoard, IsCovered, IsDecided};
-ghost use Rattle.level_sharing.specs.Progress.{CanClaim, HasSettled, Progress};
+ghost use Rattle.level_sharing.specs.Candidates.{AreCandidates, AreOnBoard, CanTake, IsCovered, IsDecided, IsOnBoard};
+ghost use Rattle.level_sharing.specs.Progress.{HasSettled, Progress};
 ghost use Rattle.level_sharing.specs.Shares.{Share};
 
 use crate::candidate::Candidate;
@@ -51,13 +51,10 @@ fn claim_one(
     candidate: Candidate,
 ) -> Result<(), OutOfMemory>
     requires seat { worker.old.seat.board ≡ board.now }
-    requires range { (candidate.row < length board.now.rows)
-        × (candidate.root < length board.now.roots) }
-    ensures progress { (s : State) (own : Share)
-        → CanClaim s own candidate.row candidate.col candidate.root candidate.free
+    requires range { IsOnBoard board.now candidate }
+    ensures progress { (s : State) (own : Share) → CanTake s own candidate
         → Progress s own worker.old worker.new }
-    ensures settled { OnOk result ((s : State) (own : Share)
-        → CanClaim s own candidate.row candidate.col candidate.root candidate.free
+    ensures settled { OnOk result ((s : State) (own : Share) → CanTake s own candidate
         → HasSettled s worker.old → HasSettled s worker.new) }
     ensures seat { worker.new.seat.board ≡ worker.old.seat.board }
     ensures decided { OnOk result (IsDecided worker.new candidate.row candidate.root) }

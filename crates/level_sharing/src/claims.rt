@@ -1,8 +1,9 @@
 //! A worker claims a row.
 
-ghost use Rattle.std.specs.Prelude.{◌≡◌, ◌<◌, length, IsTrue, IfOk, OnOk};
+ghost use Rattle.std.specs.Prelude.{◌≡◌, IsTrue, IfOk, OnOk};
 ghost use Rattle.bip_defs.specs.Forest.{State};
-ghost use Rattle.level_sharing.specs.Progress.{CanClaim, HasSettled, KnowsHolder, KnowsLeaf, Progress};
+ghost use Rattle.level_sharing.specs.Candidates.{CanTake, IsOnBoard};
+ghost use Rattle.level_sharing.specs.Progress.{HasSettled, KnowsHolder, KnowsLeaf, Progress};
 ghost use Rattle.level_sharing.specs.Shares.{Share};
 
 use crate::candidate::Candidate;
@@ -22,13 +23,10 @@ pub fn claim_row(
     candidate: Candidate,
 ) -> Result<bool, OutOfMemory>
     requires seat { worker.old.seat.board ≡ board.now }
-    requires range { (candidate.row < length board.now.rows)
-        × (candidate.root < length board.now.roots) }
-    ensures progress { (s : State) (own : Share)
-        → CanClaim s own candidate.row candidate.col candidate.root candidate.free
+    requires range { IsOnBoard board.now candidate }
+    ensures progress { (s : State) (own : Share) → CanTake s own candidate
         → Progress s own worker.old worker.new }
-    ensures settled { OnOk result ((s : State) (own : Share)
-        → CanClaim s own candidate.row candidate.col candidate.root candidate.free
+    ensures settled { OnOk result ((s : State) (own : Share) → CanTake s own candidate
         → HasSettled s worker.old → HasSettled s worker.new) }
     ensures seat { worker.new.seat.board ≡ worker.old.seat.board }
     ensures holder { OnOk result (KnowsHolder worker.new candidate.row) }

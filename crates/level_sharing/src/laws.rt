@@ -1,12 +1,12 @@
 //! Laws on boards and workers that agree with a forest, and on shares.
 
 ghost use Rattle.std.specs.Prelude.{ℕ, ◌<◌, ◌≤◌, List, ◌++◌, map};
-ghost use Rattle.bip_defs.specs.Lists.{Among, AreNew};
+ghost use Rattle.bip_defs.specs.Lists.{Among};
 ghost use Rattle.claim_words.specs.Board.{Board, Words};
 ghost use Rattle.claim_words.specs.Seat.{new_seats};
 ghost use Rattle.claim_words.specs.Settles.{SettlesAll};
 ghost use Rattle.claim_words.specs.WorkerState.{HaveGrown, WorkerState, fresh_claims_of, fresh_wins_of, seated, seats_of, settled};
-ghost use Rattle.level_sharing.specs.Agreement.{Agree, HoldThese, ListThese, Shows};
+ghost use Rattle.level_sharing.specs.Agreement.{Agree, HaveFresh, HoldThese, ListThese, Shows};
 ghost use Rattle.level_sharing.specs.Shares.{share_of};
 
 use claim_words::{
@@ -18,24 +18,9 @@ use claim_words::{
 /// fresh claims are of rows that were unclaimed, each once, the fresh wins of roots without a leaf,
 /// each once, and the words hold the old claims and leaves with the fresh ones and nothing else.
 pub fn fresh_lists_are_new()
-    ensures claims { (b : Board) (words : Words) (before after : List WorkerState)
-        (claims leaves : List (ℕ × ℕ)) → Agree b before claims leaves
-        → HaveGrown before after
-        → SettlesAll b words (seats_of after) → AreNew claims (fresh_claims_of after) }
-    ensures wins { (b : Board) (words : Words) (before after : List WorkerState)
-        (claims leaves : List (ℕ × ℕ)) → Agree b before claims leaves
-        → HaveGrown before after
-        → SettlesAll b words (seats_of after) → AreNew leaves (fresh_wins_of after) }
-    ensures rows { (b : Board) (words : Words) (before after : List WorkerState)
-        (claims leaves : List (ℕ × ℕ)) → Agree b before claims leaves
-        → HaveGrown before after
-        → SettlesAll b words (seats_of after)
-        → HoldThese (claims ++ fresh_claims_of after) words.rows }
-    ensures roots { (b : Board) (words : Words) (before after : List WorkerState)
-        (claims leaves : List (ℕ × ℕ)) → Agree b before claims leaves
-        → HaveGrown before after
-        → SettlesAll b words (seats_of after)
-        → HoldThese (leaves ++ fresh_wins_of after) words.roots }
+    ensures { (b : Board) (words : Words) (before after : List WorkerState)
+        (claims leaves : List (ℕ × ℕ)) → Agree b before claims leaves → HaveGrown before after
+        → SettlesAll b words (seats_of after) → HaveFresh words after claims leaves }
 {
     listed_words_stand();
     times_add_up();

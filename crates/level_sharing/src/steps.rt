@@ -1,36 +1,31 @@
 //! Laws on the steps of one worker.
 
 ghost use Rattle.std.specs.Prelude.{ℕ, List, Option, None, Some, length};
-ghost use Rattle.bip_defs.specs.Forest.{InForest, RootOf, State};
+ghost use Rattle.bip_defs.specs.Forest.{RootOf, State};
 ghost use Rattle.bip_defs.specs.Lists.{Among};
 ghost use Rattle.bip_defs.specs.Matching.{rows_of};
-ghost use Rattle.bip_defs.specs.Matrix.{IsEntry};
 ghost use Rattle.claim_words.specs.Board.{Board};
 ghost use Rattle.claim_words.specs.Listed.{Sight, root_word, row_word};
 ghost use Rattle.claim_words.specs.WorkerState.{AreAllWorkers, WorkerState, work_after_claim, work_after_look, work_after_win};
 ghost use Rattle.level_sharing.specs.Agreement.{Agree};
-ghost use Rattle.level_sharing.specs.Candidates.{IsCovered, IsDecided};
+ghost use Rattle.level_sharing.specs.Candidates.{Remembers};
 ghost use Rattle.level_sharing.specs.Each.{EachFrom};
 ghost use Rattle.level_sharing.specs.Level.{HaveProgressed};
-ghost use Rattle.level_sharing.specs.Progress.{HasSettled, IsAtStart, IsLeafFor, IsThroughColumn, IsThroughRow, KnowsHolder, KnowsLeaf, KnowsWon, Progress};
-ghost use Rattle.level_sharing.specs.Shares.{IsOwn, Share};
-ghost use Rattle.level_sharing.specs.declared.candidate.Candidate.{Candidate};
+ghost use Rattle.level_sharing.specs.Progress.{HasSettled, IsAtStart, IsLeafFor, IsOwnClaim, IsProgress, IsThroughColumn, IsThroughRow, KnowsHolder, KnowsLeaf, Progress};
+ghost use Rattle.level_sharing.specs.Shares.{IsWithin, Share};
 
 use claim_words::{steps_add_to_lists, workers_grow, workers_know_more};
 
 /// A worker's steps are progress, and so are steps after steps.
 pub fn steps_are_progress()
-    ensures here { (s : State) (own : Share) (w : WorkerState) → Progress s own w w }
+    ensures here { IsProgress (λ w. w) }
     ensures on { (s : State) (own : Share) (v w u : WorkerState)
         → Progress s own v w → Progress s own w u → Progress s own v u }
-    ensures wider { (s : State) (own wide : Share) (v w : WorkerState)
-        → ((r c : ℕ) → IsOwn own (r, c) → IsOwn wide (r, c))
+    ensures wider { (s : State) (own wide : Share) (v w : WorkerState) → IsWithin own wide
         → Progress s own v w → Progress s wide v w }
-    ensures look { (s : State) (own : Share) (w : WorkerState) (sight : Sight)
-        → Progress s own w (work_after_look w sight) }
+    ensures look { (sight : Sight) → IsProgress (λ w. work_after_look w sight) }
     ensures claim { (s : State) (own : Share) (w : WorkerState) (r c : ℕ) (found : Option ℕ)
-        → IsOwn own (r, c) → IsEntry s.matrix r c → InForest s c
-        → Progress s own w (work_after_claim w r c found) }
+        → IsOwnClaim s own r c → Progress s own w (work_after_claim w r c found) }
     ensures win { (s : State) (own : Share) (w : WorkerState) (x r : ℕ) (found : Option ℕ)
         → IsLeafFor s w x r → Progress s own w (work_after_win w x r found) }
 {
@@ -40,16 +35,8 @@ pub fn steps_are_progress()
 /// What a worker knows of a word it knows from then on. A claim and a win tell what the word holds,
 /// and so does a look that finds a value.
 pub fn steps_are_remembered()
-    ensures holder { (s : State) (own : Share) (v w : WorkerState) (r : ℕ)
-        → Progress s own v w → KnowsHolder v r → KnowsHolder w r }
-    ensures leaf { (s : State) (own : Share) (v w : WorkerState) (x : ℕ)
-        → Progress s own v w → KnowsLeaf v x → KnowsLeaf w x }
-    ensures won { (s : State) (own : Share) (v w : WorkerState) (c : ℕ)
-        → Progress s own v w → KnowsWon s v c → KnowsWon s w c }
-    ensures decided { (s : State) (own : Share) (v w : WorkerState) (r x : ℕ)
-        → Progress s own v w → IsDecided v r x → IsDecided w r x }
-    ensures covered { (s : State) (own : Share) (v w : WorkerState) (xs : List Candidate) (r x : ℕ)
-        → Progress s own v w → IsCovered v xs r x → IsCovered w xs r x }
+    ensures known { (s : State) (own : Share) (v w : WorkerState) → Progress s own v w
+        → Remembers s v w }
     ensures claim { (w : WorkerState) (r c : ℕ) (found : Option ℕ)
         → KnowsHolder (work_after_claim w r c found) r }
     ensures win { (w : WorkerState) (x r : ℕ) (found : Option ℕ)

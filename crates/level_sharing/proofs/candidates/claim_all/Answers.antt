@@ -22,11 +22,11 @@ loop-candidate-preserved c =
       progress = λ s own all. c.steps_are_progress.ensures.on s own c.args.worker.now c.loop-candidate.worker c.claim_one.new.worker (c.loop-candidate.invariant.progress s own all) (c.claim_one.ensures.progress s own (all c.candidate-item.result listed));
       settled = λ s own all h. c.in_ok-claim_one.ensures.settled s own (all c.candidate-item.result listed) (c.loop-candidate.invariant.settled s own all h);
       decided = λ s own all. each_more (λ (x : Candidate). IsDecided c.claim_one.new.worker x.row x.root) c.args.candidates.now c.loop-candidate.candidate-index c.candidate-item.result c.loop-candidate-test.true c.candidate-item.is
-          (λ x m. c.steps_are_remembered.ensures.decided s own c.loop-candidate.worker c.claim_one.new.worker x.row x.root (c.claim_one.ensures.progress s own (all c.candidate-item.result listed)) (c.loop-candidate.invariant.decided s own all x m))
+          (λ x m. (c.steps_are_remembered.ensures.known s own c.loop-candidate.worker c.claim_one.new.worker (c.claim_one.ensures.progress s own (all c.candidate-item.result listed))).decided x.row x.root (c.loop-candidate.invariant.decided s own all x m))
           c.in_ok-claim_one.ensures.decided;
     }
 
 pub returns-clause-decided : goal.returns-clause-decided
-returns-clause-decided c s own all row root (inl had) = c.steps_are_remembered.ensures.decided s own c.args.worker.now c.loop-candidate.worker row root (c.loop-candidate.invariant.progress s own all) had
+returns-clause-decided c s own all row root (inl had) = (c.steps_are_remembered.ensures.known s own c.args.worker.now c.loop-candidate.worker (c.loop-candidate.invariant.progress s own all)).decided row root had
 returns-clause-decided c s own all row root (inr (x, m, e, f)) = decided_same c.loop-candidate.worker x.row x.root row root e f
     (c.loop-candidate.invariant.decided s own all x (subst (λ (l : List Candidate). Among x l) (sym (take_all c.loop-candidate.candidate-index c.args.candidates.now c.loop-candidate-test.false)) m))

@@ -35,7 +35,7 @@ returns-in_ok-win-in-Mine-clause-progress c s own can =
     let is_free : c.args.candidate.free ≡ true = search rules in
     let last : Among {X = ℕ × ℕ} (c.args.candidate.row, c.args.candidate.col) (work_after_claim c.args.worker.now c.args.candidate.row c.args.candidate.col None).fresh_claims = among_right _ c.args.worker.now.fresh_claims _ (inl refl) in
     let leaf : IsLeafFor s c.claim.new.self c.args.candidate.root c.args.candidate.row = subst (λ w. IsLeafFor s w c.args.candidate.root c.args.candidate.row) (sym e) (can.is_free is_free, (c.args.candidate.col, last, can.rooted)) in
-    let claim : Progress s own c.args.worker.now c.claim.new.self = subst (λ w. Progress s own c.args.worker.now w) (sym e) (c.steps_are_progress.ensures.claim s own c.args.worker.now c.args.candidate.row c.args.candidate.col None can.is_own can.entry can.inside) in
+    let claim : Progress s own c.args.worker.now c.claim.new.self = subst (λ w. Progress s own c.args.worker.now w) (sym e) (c.steps_are_progress.ensures.claim s own c.args.worker.now c.args.candidate.row c.args.candidate.col None (record { is_own = can.is_own; entry = can.entry; inside = can.inside })) in
     let win : Progress s own c.claim.new.self c.win.new.self = subst (λ w. Progress s own c.claim.new.self w) (sym f) (c.steps_are_progress.ensures.win s own c.claim.new.self c.args.candidate.root c.args.candidate.row (leaf_before c.in_ok-win-in-Mine.field-0) leaf) in
     c.steps_are_progress.ensures.on s own c.args.worker.now c.claim.new.self c.win.new.self claim win
 

@@ -9,8 +9,8 @@ use Rattle.level_sharing.proofs.laws.fresh_lists_are_new.Goals as goal
 
 laws : goal.After-fresh_lists_are_listed → WordLaws
 laws c = record {
-  stands = c.listed_words_stand.ensures.stands;
-  from = c.listed_words_stand.ensures.from;
+  stands = λ opened now listed i x a. (c.listed_words_stand.ensures opened now listed a).stands i x;
+  from = λ opened now listed i x a. (c.listed_words_stand.ensures opened now listed a).from i x;
   listed = c.times_add_up.ensures.listed;
   distinct = c.times_add_up.ensures.distinct;
 }
@@ -36,9 +36,9 @@ roots_grow c b words before after claims leaves a g s = record {
 }
 
 pub returns : goal.returns
-returns c = record {
-  claims = λ b words before after claims leaves a g s. fresh_new (laws c) _ _ _ _ _ _ (rows_grow c b words before after claims leaves a g s) a.listed.rows;
-  wins = λ b words before after claims leaves a g s. fresh_new (laws c) _ _ _ _ _ _ (roots_grow c b words before after claims leaves a g s) a.listed.roots;
-  rows = λ b words before after claims leaves a g s. listed_held (laws c) _ _ _ _ s.claims (listed_more _ _ _ _ _ (rows_grow c b words before after claims leaves a g s).longer a.listed.rows);
-  roots = λ b words before after claims leaves a g s. listed_held (laws c) _ _ _ _ s.wins (listed_more _ _ _ _ _ (roots_grow c b words before after claims leaves a g s).longer a.listed.roots);
+returns c = λ b words before after claims leaves a g s. record {
+  new_claims = fresh_new (laws c) _ _ _ _ _ _ (rows_grow c b words before after claims leaves a g s) a.listed.rows;
+  new_wins = fresh_new (laws c) _ _ _ _ _ _ (roots_grow c b words before after claims leaves a g s) a.listed.roots;
+  rows = listed_held (laws c) _ _ _ _ s.claims (listed_more _ _ _ _ _ (rows_grow c b words before after claims leaves a g s).longer a.listed.rows);
+  roots = listed_held (laws c) _ _ _ _ s.wins (listed_more _ _ _ _ _ (roots_grow c b words before after claims leaves a g s).longer a.listed.roots);
 }

@@ -21,6 +21,6 @@ returns-clause-listed c = λ b ws claims leaves l.
 pub returns-clause-shown : goal.returns-clause-shown
 returns-clause-shown c = λ b ws claims leaves s. record {
   all_workers = s.all_workers;
-  rows = held_listed c.listed_words_stand.ensures.from _ _ _ _ s.listed.claims s.rows;
-  roots = held_listed c.listed_words_stand.ensures.from _ _ _ _ s.listed.wins s.roots;
+  rows = held_listed (λ opened now listed i x a. (c.listed_words_stand.ensures opened now listed a).from i x) _ _ _ _ s.listed.claims s.rows;
+  roots = held_listed (λ opened now listed i x a. (c.listed_words_stand.ensures opened now listed a).from i x) _ _ _ _ s.listed.wins s.roots;
 }

@@ -5,14 +5,10 @@ use Rattle.level_sharing.proofs.levels.words_tell_of_levels.Goals as goal
 pub returns : goal.returns
 returns c = λ l.
     let grow = lists_grow l.forest l.own 0 l.before l.after l.progress in
-    let new = c.fresh_lists_are_new.ensures in record {
+    record {
       all = c.workers_grow.ensures.all l.board l.before l.after grow l.agree.listed.all_workers;
       same_claims = c.fresh_lists_join.ensures.same_claims l.gathered l.after l.fresh;
       same_wins = c.fresh_lists_join.ensures.same_wins l.gathered l.after l.fresh;
-      new_claims = new.claims l.board l.words l.before l.after l.forest.claims l.forest.leaves l.agree grow l.settles;
-      new_wins = new.wins l.board l.words l.before l.after l.forest.claims l.forest.leaves l.agree grow l.settles;
-      rows = new.rows l.board l.words l.before l.after l.forest.claims l.forest.leaves l.agree grow l.settles;
-      roots = new.roots l.board l.words l.before l.after l.forest.claims l.forest.leaves l.agree grow l.settles;
-      row_known = λ v row col. c.known_values_stand.ensures.rows l.board l.words (seats_of l.after) v row col l.settles;
-      root_known = λ v root leaf. c.known_values_stand.ensures.roots l.board l.words (seats_of l.after) v root leaf l.settles;
+      fresh = c.fresh_lists_are_new.ensures l.board l.words l.before l.after l.forest.claims l.forest.leaves l.agree grow l.settles;
+      known = c.known_values_stand.ensures.known l.board l.words (seats_of l.after) l.settles;
     }

@@ -6,7 +6,7 @@ use Rattle.level_sharing.proofs.ProgressLemmas.{if_found}
 use Rattle.level_sharing.proofs.looks.finds_holder.Goals as goal
 
 pub returns-clause-progress : goal.returns-clause-progress
-returns-clause-progress c = λ s own. subst (λ (w : WorkerState). Progress s own c.args.worker.now w) (sym c.look_row.ensures.worker) (c.steps_are_progress.ensures.look s own c.args.worker.now (row_word c.args.row c.look_row.result))
+returns-clause-progress c = λ s own. subst (λ (w : WorkerState). Progress s own c.args.worker.now w) (sym c.look_row.ensures.worker) (c.steps_are_progress.ensures.look (row_word c.args.row c.look_row.result) s own c.args.worker.now)
 
 pub returns-clause-settled : goal.returns-clause-settled
 returns-clause-settled c = λ s h. subst (HasSettled s) (sym c.look_row.ensures.worker) (c.steps_settle.ensures.look s c.args.worker.now (row_word c.args.row c.look_row.result) h)

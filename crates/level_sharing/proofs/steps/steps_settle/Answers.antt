@@ -7,13 +7,13 @@ use Rattle.level_sharing.proofs.ProgressLemmas.{settled_one, settled_same}
 use Rattle.level_sharing.proofs.steps.steps_settle.Goals as goal
 
 on_look : goal.After-workers_know_more → (w : WorkerState) (sight : Sight) (x r : ℕ) → KnowsRoot w.seat x r → KnowsRoot (work_after_look w sight).seat x r
-on_look t w sight x r = t.workers_know_more.ensures.root w (work_after_look w sight) x r (looked nothing sight, t.steps_add_to_lists.ensures.look w sight)
+on_look t w sight x r = (t.workers_know_more.ensures.grown w (work_after_look w sight) (looked nothing sight, t.steps_add_to_lists.ensures.look w sight)).root x r
 
 on_claim : goal.After-workers_know_more → (w : WorkerState) (r c : ℕ) (found : Option ℕ) (x q : ℕ) → KnowsRoot w.seat x q → KnowsRoot (work_after_claim w r c found).seat x q
-on_claim t w r c found x q = t.workers_know_more.ensures.root w (work_after_claim w r c found) x q (claimed nothing r c found, t.steps_add_to_lists.ensures.claim w r c found)
+on_claim t w r c found x q = (t.workers_know_more.ensures.grown w (work_after_claim w r c found) (claimed nothing r c found, t.steps_add_to_lists.ensures.claim w r c found)).root x q
 
 on_win : goal.After-workers_know_more → (w : WorkerState) (y r : ℕ) (found : Option ℕ) (x q : ℕ) → KnowsRoot w.seat x q → KnowsRoot (work_after_win w y r found).seat x q
-on_win t w y r found x q = t.workers_know_more.ensures.root w (work_after_win w y r found) x q (won nothing y r found, t.steps_add_to_lists.ensures.win w y r found)
+on_win t w y r found x q = (t.workers_know_more.ensures.grown w (work_after_win w y r found) (won nothing y r found, t.steps_add_to_lists.ensures.win w y r found)).root x q
 
 leaf : goal.After-workers_know_more → (w : WorkerState) (x r : ℕ) (found : Option ℕ) → KnowsLeaf (work_after_win w x r found) x
 leaf t w x r None = (r, t.workers_know_more.ensures.win w.seat x r r None refl)
