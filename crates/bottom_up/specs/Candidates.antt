@@ -6,7 +6,9 @@ use Rattle.bip_defs.specs.Matching.{rows_of}
 use Rattle.bip_defs.specs.Matrix.{IsEntry, cols}
 use Rattle.claim_words.specs.Board.{Board}
 use Rattle.claim_words.specs.WorkerState.{WorkerState}
-use Rattle.level_sharing.specs.Progress.{HasSettled, IsThroughRow}
+use Rattle.level_sharing.specs.Candidates.{HasGathered}
+use Rattle.level_sharing.specs.Progress.{IsThroughRow, Progress}
+use Rattle.level_sharing.specs.Shares.{of_rows}
 use Rattle.level_sharing.specs.declared.candidate.Candidate.{Candidate}
 
 -- a row, and a column of the forest that may claim it
@@ -18,20 +20,24 @@ pub record IsCandidate (s : State) (x : Candidate) : Type 0 where
   pub mated : x.free ≡ false → Among x.row (rows_of s.base)
   pub is_free : x.free ≡ true → ¬ Among x.row (rows_of s.base)
 
--- a worker with a seat of the board, which has settled what it has claimed, and candidates of its
--- own rows
-pub record HasGathered (s : State) (b : Board) (rows : List ℕ) (w : WorkerState)
-    (xs : List Candidate) : Type 0 where
-  pub seat : w.seat.board ≡ b
-  pub settled : HasSettled s w
-  pub own : (x : Candidate) → Among x xs → Among x.row rows
-  pub candidates : (x : Candidate) → Among x xs → IsCandidate s x
+-- such a row is one of these
+abbrev pub FitsRows : State → List ℕ → Candidate → Type 0
+FitsRows s rows x = Among x.row rows × IsCandidate s x
+
+-- a worker with a seat of the board, which has settled what it has claimed, and candidates of these
+-- rows
+abbrev pub HasGatheredRows : State → Board → List ℕ → WorkerState → List Candidate → Type 0
+HasGatheredRows s b rows w xs = HasGathered s b (FitsRows s rows) w xs
+
+-- the worker has made progress by these rows
+abbrev pub Advances : State → List ℕ → WorkerState → WorkerState → Type 0
+Advances s rows v w = Progress s (of_rows rows) v w
 
 -- the worker is through with the row, or has gathered it
-abbrev pub IsCovered : State → WorkerState → List Candidate → ℕ → Type 0
-IsCovered s w xs row = IsThroughRow s w row ⊎ ((x : Candidate) × Among x xs × (x.row ≡ row))
+abbrev pub IsCoveredRow : State → WorkerState → List Candidate → ℕ → Type 0
+IsCoveredRow s w xs row = IsThroughRow s w row ⊎ ((x : Candidate) × Among x xs × (x.row ≡ row))
 
 -- what was covered is so still
-abbrev pub StaysCovered : State → WorkerState → List Candidate → WorkerState → List Candidate
+abbrev pub RowsStayCovered : State → WorkerState → List Candidate → WorkerState → List Candidate
     → Type 0
-StaysCovered s v xs w ys = (row : ℕ) → IsCovered s v xs row → IsCovered s w ys row
+RowsStayCovered s v xs w ys = (row : ℕ) → IsCoveredRow s v xs row → IsCoveredRow s w ys row

@@ -1,13 +1,11 @@
 //! One level of the search, from free rows up.
 
-ghost use Rattle.std.specs.Prelude.{◌≡◌, ◌⊎◌, ℕ, ◌<◌, ◌≤◌, length, OnOk};
-ghost use Rattle.bip_defs.specs.Forest.{HasWon, InForest, IsSettled};
+ghost use Rattle.std.specs.Prelude.{ℕ, ◌<◌, OnOk};
+ghost use Rattle.bip_defs.specs.Forest.{IsSettled};
 ghost use Rattle.bip_defs.specs.Lists.{Among};
-ghost use Rattle.bip_defs.specs.Matching.{rows_of};
-ghost use Rattle.bip_defs.specs.Matrix.{IsEntry, cols};
 ghost use Rattle.forest_core.specs.Events.{Runs};
-ghost use Rattle.level_sharing.specs.Agreement.{Agree, Shows};
-ghost use Rattle.level_sharing.specs.Growth.{fresh_events, grown};
+ghost use Rattle.level_sharing.specs.Agreement.{Agree, IsSized};
+ghost use Rattle.level_sharing.specs.Growth.{AreAttached, ShowsGrown, fresh_events, grown};
 ghost use Rattle.level_sharing.specs.Shares.{KeepToRows};
 
 use crate::search::BottomUpSearch;
@@ -45,20 +43,15 @@ pub fn attach<R: Threads + Sync, G: Gate>(
     gate: &G,
 ) -> Result<(), OutOfMemory>
     requires agree { Agree board.now workers.old forest.now.claims forest.now.leaves }
-    requires board_rows { length board.now.rows ≡ forest.now.matrix.rows }
-    requires board_roots { length board.now.roots ≡ cols forest.now.matrix }
+    requires sized { IsSized forest.now board.now }
     requires settled { IsSettled forest.now }
     requires rows { (r : ℕ) → Among r free.now → r < forest.now.matrix.rows }
     ensures legal { Runs forest.entry.now (fresh_events workers.new)
         (grown forest.entry.now workers.new) }
-    ensures words { Shows board.entry.now workers.new
-        (grown forest.entry.now workers.new).claims (grown forest.entry.now workers.new).leaves }
+    ensures words { ShowsGrown board.entry.now forest.entry.now workers.new }
     ensures shares { KeepToRows free.entry.now workers.new }
     ensures settled { OnOk result (IsSettled (grown forest.entry.now workers.new)) }
-    ensures rows { OnOk result ((r c : ℕ) → Among r free.entry.now
-        → IsEntry forest.entry.now.matrix r c → InForest forest.entry.now c
-        → Among r (rows_of (grown forest.entry.now workers.new).claims)
-        ⊎ HasWon (grown forest.entry.now workers.new) c) }
+    ensures rows { OnOk result (AreAttached forest.entry.now workers.new free.entry.now) }
 {
     attach_under(rt, forest, board, free, workers, &Sharing::usual(gate))
 }
@@ -73,20 +66,15 @@ pub fn attach_under<R: Threads + Sync, G: Gate>(
     sharing: &Sharing<'_, G>,
 ) -> Result<(), OutOfMemory>
     requires agree { Agree board.now workers.old forest.now.claims forest.now.leaves }
-    requires board_rows { length board.now.rows ≡ forest.now.matrix.rows }
-    requires board_roots { length board.now.roots ≡ cols forest.now.matrix }
+    requires sized { IsSized forest.now board.now }
     requires settled { IsSettled forest.now }
     requires rows { (r : ℕ) → Among r free.now → r < forest.now.matrix.rows }
     ensures legal { Runs forest.entry.now (fresh_events workers.new)
         (grown forest.entry.now workers.new) }
-    ensures words { Shows board.entry.now workers.new
-        (grown forest.entry.now workers.new).claims (grown forest.entry.now workers.new).leaves }
+    ensures words { ShowsGrown board.entry.now forest.entry.now workers.new }
     ensures shares { KeepToRows free.entry.now workers.new }
     ensures settled { OnOk result (IsSettled (grown forest.entry.now workers.new)) }
-    ensures rows { OnOk result ((r c : ℕ) → Among r free.entry.now
-        → IsEntry forest.entry.now.matrix r c → InForest forest.entry.now c
-        → Among r (rows_of (grown forest.entry.now workers.new).claims)
-        ⊎ HasWon (grown forest.entry.now workers.new) c) }
+    ensures rows { OnOk result (AreAttached forest.entry.now workers.new free.entry.now) }
 {
     workers_are_few(workers);
     new_pairs_run();

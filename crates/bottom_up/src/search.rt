@@ -1,14 +1,15 @@
 //! What one worker does in a level.
 
 ghost use Rattle.std.specs.Prelude.{◌≡◌, ℕ, ◌<◌, false, true, IfNone, IfSome, OnOk};
-ghost use Rattle.bip_defs.specs.Forest.{InForest, RootOf};
+ghost use Rattle.bip_defs.specs.Forest.{InForest};
 ghost use Rattle.bip_defs.specs.Lists.{Among};
 ghost use Rattle.bip_defs.specs.Matrix.{cols};
 ghost use Rattle.arrayvec.specs.ArrayVec.{array_vec_len};
-ghost use Rattle.bottom_up.specs.Candidates.{HasGathered, IsCandidate, IsCovered, StaysCovered};
-ghost use Rattle.bottom_up.specs.BottomUpSearch.{IsSearch, IsSized};
+ghost use Rattle.bottom_up.specs.Candidates.{Advances, HasGatheredRows, IsCandidate, IsCoveredRow, RowsStayCovered};
+ghost use Rattle.level_sharing.specs.Candidates.{IsRootFor};
+ghost use Rattle.bottom_up.specs.BottomUpSearch.{IsRowSearch};
 ghost use Rattle.level_sharing.specs.Progress.{HasSettled, IsThroughRow, IsThroughRows, KnowsWon, Progress};
-ghost use Rattle.level_sharing.specs.Shares.{IsOwn, Share, of_rows};
+ghost use Rattle.level_sharing.specs.Shares.{IsOwn, Share};
 
 use arrayvec::ArrayVec;
 use claim_words::{ClaimBoard, Worker};
@@ -26,7 +27,7 @@ pub(crate) struct BottomUpSearch<'a, 'p> {
     pub(crate) board: &'a ClaimBoard,
     pub(crate) free: &'a [Row],
     pub(crate) workers: usize,
-    ghost over: { IsSearch forest.now board.now free.now },
+    ghost over: { IsRowSearch forest.now board.now free.now },
 }
 
 impl<'a, 'p> Work<Worker, OutOfMemory> for BottomUpSearch<'a, 'p> {
@@ -60,8 +61,7 @@ impl<'a, 'p> BottomUpSearch<'a, 'p> {
     fn go_through(&self, worker: &mut Worker) -> Result<(), OutOfMemory>
         requires seat { worker.old.seat.board ≡ self.now.board.now }
         requires settled { HasSettled self.now.forest.now worker.old }
-        ensures progress { Progress self.now.forest.now (of_rows self.now.free.now)
-            worker.old worker.new }
+        ensures progress { Advances self.now.forest.now self.now.free.now worker.old worker.new }
         ensures through { OnOk result
             (IsThroughRows self.now.forest.now self.now.free.now worker.new) }
     {
@@ -81,16 +81,15 @@ impl<'a, 'p> BottomUpSearch<'a, 'p> {
         candidates: &mut ArrayVec<Candidate, 512>,
     ) -> Result<(), OutOfMemory>
         requires row { Among row self.now.free.now }
-        requires gathered { HasGathered self.now.forest.now self.now.board.now self.now.free.now
-            worker.old candidates.old.items }
-        ensures progress { Progress self.now.forest.now (of_rows self.now.free.now)
-            worker.old worker.new }
-        ensures gathered { OnOk result (HasGathered self.now.forest.now self.now.board.now
+        requires gathered { HasGatheredRows self.now.forest.now self.now.board.now
+            self.now.free.now worker.old candidates.old.items }
+        ensures progress { Advances self.now.forest.now self.now.free.now worker.old worker.new }
+        ensures gathered { OnOk result (HasGatheredRows self.now.forest.now self.now.board.now
             self.now.free.now worker.new candidates.new.items) }
-        ensures stays { OnOk result (StaysCovered self.now.forest.now worker.old
+        ensures stays { OnOk result (RowsStayCovered self.now.forest.now worker.old
             candidates.old.items worker.new candidates.new.items) }
         ensures row { OnOk result
-            (IsCovered self.now.forest.now worker.new candidates.new.items row) }
+            (IsCoveredRow self.now.forest.now worker.new candidates.new.items row) }
     {
         steps_are_progress();
         workers_stay_through();
@@ -110,13 +109,12 @@ impl<'a, 'p> BottomUpSearch<'a, 'p> {
         worker: &mut Worker,
         candidates: &mut ArrayVec<Candidate, 512>,
     ) -> Result<(), OutOfMemory>
-        requires gathered { HasGathered self.now.forest.now self.now.board.now self.now.free.now
-            worker.old candidates.old.items }
-        ensures progress { Progress self.now.forest.now (of_rows self.now.free.now)
-            worker.old worker.new }
-        ensures gathered { OnOk result (HasGathered self.now.forest.now self.now.board.now
+        requires gathered { HasGatheredRows self.now.forest.now self.now.board.now
+            self.now.free.now worker.old candidates.old.items }
+        ensures progress { Advances self.now.forest.now self.now.free.now worker.old worker.new }
+        ensures gathered { OnOk result (HasGatheredRows self.now.forest.now self.now.board.now
             self.now.free.now worker.new candidates.new.items) }
-        ensures stays { OnOk result (StaysCovered self.now.forest.now worker.old
+        ensures stays { OnOk result (RowsStayCovered self.now.forest.now worker.old
             candidates.old.items worker.new candidates.new.items) }
         ensures room { OnOk result (array_vec_len candidates.new < 512) }
     {
@@ -131,14 +129,13 @@ impl<'a, 'p> BottomUpSearch<'a, 'p> {
     // It claims the candidates, in their order, each for another column where its root has a leaf
     // by then.
     fn claim_each(&self, candidates: &[Candidate], worker: &mut Worker) -> Result<(), OutOfMemory>
-        requires gathered { HasGathered self.now.forest.now self.now.board.now self.now.free.now
-            worker.old candidates.now }
-        ensures progress { Progress self.now.forest.now (of_rows self.now.free.now)
-            worker.old worker.new }
+        requires gathered { HasGatheredRows self.now.forest.now self.now.board.now
+            self.now.free.now worker.old candidates.now }
+        ensures progress { Advances self.now.forest.now self.now.free.now worker.old worker.new }
         ensures seat { worker.new.seat.board ≡ self.now.board.now }
         ensures settled { OnOk result (HasSettled self.now.forest.now worker.new) }
         ensures through { OnOk result ((r : ℕ)
-            → IsCovered self.now.forest.now worker.old candidates.now r
+            → IsCoveredRow self.now.forest.now worker.old candidates.now r
             → IsThroughRow self.now.forest.now worker.new r) }
     {
         steps_are_progress();
@@ -220,10 +217,7 @@ impl<'a, 'p> BottomUpSearch<'a, 'p> {
         requires settled { HasSettled self.now.forest.now worker.old }
         ensures progress { (own : Share) → Progress self.now.forest.now own worker.old worker.new }
         ensures settled { HasSettled self.now.forest.now worker.new }
-        ensures inside { IfSome result (λ _. InForest self.now.forest.now col) }
-        ensures root { IfSome result
-            (λ x. RootOf self.now.forest.now.base self.now.forest.now.claims x col) }
-        ensures in_range { IfSome result (λ x. x < cols self.now.forest.now.matrix) }
+        ensures root { IfSome result (λ x. IsRootFor self.now.forest.now col x) }
         ensures none { IfNone result (InForest self.now.forest.now col
             → KnowsWon self.now.forest.now worker.new col) }
     {

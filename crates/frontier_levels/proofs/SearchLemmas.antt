@@ -6,29 +6,24 @@ use Rattle.bip_defs.specs.Matrix.{column}
 use Rattle.bip_defs.proofs.Sets.{among_last, among_left, among_right}
 use Rattle.claim_words.specs.Board.{Board}
 use Rattle.claim_words.specs.WorkerState.{WorkerState}
-use Rattle.frontier_levels.specs.TopDownSearch.{HasGathered, IsCoveredColumn, StaysCovered}
-use Rattle.level_sharing.specs.Candidates.{IsCovered, IsDecided}
+use Rattle.frontier_levels.specs.TopDownSearch.{FitsColumns, IsCoveredColumn, StaysCovered}
+use Rattle.level_sharing.specs.Candidates.{HasGathered, IsCovered, IsDecided}
 use Rattle.level_sharing.specs.Progress.{CanClaim, HasSettled, IsThroughColumn, KnowsHolder, KnowsLeaf}
 use Rattle.level_sharing.specs.Shares.{by_columns}
 use Rattle.level_sharing.specs.declared.candidate.Candidate.{Candidate}
 
 -- Candidates.
 
--- nothing is gathered
-pub none_gathered : (s : State) (b : Board) (share : List ℕ) (w : WorkerState) → w.seat.board ≡ b → HasSettled s w → HasGathered s b share w []
-none_gathered s b share w seat settled = record { seat = seat; settled = settled; candidates = λ x m. absurd m; on_board = λ x m. absurd m }
-
 -- another state of the worker
-pub gathered_on : (s : State) (b : Board) (share : List ℕ) (v w : WorkerState) (xs : List Candidate) → w.seat.board ≡ v.seat.board → (HasSettled s v → HasSettled s w) → HasGathered s b share v xs → HasGathered s b share w xs
-gathered_on s b share v w xs seat settled g = record { seat = seat ∙ g.seat; settled = settled g.settled; candidates = g.candidates; on_board = g.on_board }
+pub gathered_on : (s : State) (b : Board) (IsSo : Candidate → Type 0) (v w : WorkerState) (xs : List Candidate) → w.seat.board ≡ v.seat.board → (HasSettled s v → HasSettled s w) → HasGathered s b IsSo v xs → HasGathered s b IsSo w xs
+gathered_on s b IsSo v w xs seat settled g = record { seat = seat ∙ g.seat; settled = settled g.settled; each = g.each }
 
 -- one candidate more
-pub gathered_more : (s : State) (b : Board) (share : List ℕ) (w : WorkerState) (xs : List Candidate) (x : Candidate) → CanClaim s (by_columns share) x.row x.col x.root x.free → (x.row < length b.rows) × (x.root < length b.roots) → HasGathered s b share w xs → HasGathered s b share w (xs ++ x ∷ [])
-gathered_more s b share w xs x can on_board g = record {
+pub gathered_more : (s : State) (b : Board) (columns : List ℕ) (w : WorkerState) (xs : List Candidate) (x : Candidate) → CanClaim s (by_columns columns) x.row x.col x.root x.free → (x.row < length b.rows) × (x.root < length b.roots) → HasGathered s b (FitsColumns s b columns) w xs → HasGathered s b (FitsColumns s b columns) w (xs ++ x ∷ [])
+gathered_more s b columns w xs x can on_board g = record {
   seat = g.seat;
   settled = g.settled;
-  candidates = λ y m. ⊎_elim (λ k. g.candidates y k) (λ (e : y ≡ x). subst (λ (z : Candidate). CanClaim s (by_columns share) z.row z.col z.root z.free) (sym e) can) (among_last y x xs m);
-  on_board = λ y m. ⊎_elim (λ k. g.on_board y k) (λ (e : y ≡ x). subst (λ (z : Candidate). (z.row < length b.rows) × (z.root < length b.roots)) (sym e) on_board) (among_last y x xs m);
+  each = λ y m. ⊎_elim (λ k. g.each y k) (λ (e : y ≡ x). subst (FitsColumns s b columns) (sym e) (can, on_board)) (among_last y x xs m);
 }
 
 -- What is covered.

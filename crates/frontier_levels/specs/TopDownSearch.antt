@@ -1,29 +1,32 @@
 -- What a search from the frontier down stands on, and what it has gathered so far.
-use Rattle.std.specs.Prelude.{◌≡◌, ◌⊎◌, ℕ, List, length}
+use Rattle.std.specs.Prelude.{◌⊎◌, ℕ, List}
 use Rattle.bip_defs.specs.Forest.{InForest, RootOf, State}
 use Rattle.bip_defs.specs.Lists.{Among}
-use Rattle.bip_defs.specs.Matrix.{cols, column}
+use Rattle.bip_defs.specs.Matrix.{column}
 use Rattle.claim_words.specs.Board.{Board}
 use Rattle.claim_words.specs.WorkerState.{WorkerState}
-use Rattle.level_sharing.specs.Candidates.{AreCandidates, AreOnBoard, IsCovered}
-use Rattle.level_sharing.specs.Progress.{HasSettled, KnowsLeaf}
+use Rattle.frontier_levels.specs.declared.search.TopDownSearch.{TopDownSearch}
+use Rattle.level_sharing.specs.Candidates.{CanTake, HasGathered, IsCovered, IsOnBoard, IsSearch}
+use Rattle.level_sharing.specs.Progress.{KnowsLeaf, Progress}
 use Rattle.level_sharing.specs.Shares.{by_columns}
 use Rattle.level_sharing.specs.declared.candidate.Candidate.{Candidate}
 
 -- the board has a word for each row and each root, and the columns are in the forest
-pub record IsSearch (s : State) (b : Board) (frontier : List ℕ) : Type 0 where
-  pub rows : length b.rows ≡ s.matrix.rows
-  pub roots : length b.roots ≡ cols s.matrix
-  pub inside : (c : ℕ) → Among c frontier → InForest s c
+abbrev pub IsColumnSearch : State → Board → List ℕ → Type 0
+IsColumnSearch s b columns = IsSearch s b (InForest s) columns
 
--- a worker with a seat of the board, which has settled what it has claimed, and candidates by
--- columns of its share
-pub record HasGathered (s : State) (b : Board) (share : List ℕ) (w : WorkerState)
-    (xs : List Candidate) : Type 0 where
-  pub seat : w.seat.board ≡ b
-  pub settled : HasSettled s w
-  pub candidates : AreCandidates s (by_columns share) xs
-  pub on_board : AreOnBoard b xs
+-- a worker may claim it by one of these columns, and the board has its words
+abbrev pub FitsColumns : State → Board → List ℕ → Candidate → Type 0
+FitsColumns s b columns x = CanTake s (by_columns columns) x × IsOnBoard b x
+
+-- a worker in this search, and the candidates that it has gathered by columns of its share
+abbrev pub HasGatheredIn : TopDownSearch → WorkerState → List Candidate → Type 0
+HasGatheredIn t w xs = HasGathered t.forest.now t.board.now
+    (FitsColumns t.forest.now t.board.now t.share.now) w xs
+
+-- the worker has made progress by its share's columns
+abbrev pub Advances : TopDownSearch → WorkerState → WorkerState → Type 0
+Advances t v w = Progress t.forest.now (by_columns t.share.now) v w
 
 -- what was covered is so still
 abbrev pub StaysCovered : WorkerState → List Candidate → WorkerState → List Candidate → Type 0

@@ -1,12 +1,11 @@
 //! One level of the search, from the frontier down.
 
-ghost use Rattle.std.specs.Prelude.{◌≡◌, ◌⊎◌, ℕ, ◌≤◌, length, OnOk};
-ghost use Rattle.bip_defs.specs.Forest.{HasWon, InForest, IsSettled, IsUsedUp};
+ghost use Rattle.std.specs.Prelude.{ℕ, OnOk};
+ghost use Rattle.bip_defs.specs.Forest.{InForest, IsSettled};
 ghost use Rattle.bip_defs.specs.Lists.{Among};
-ghost use Rattle.bip_defs.specs.Matrix.{cols};
 ghost use Rattle.forest_core.specs.Events.{Runs};
-ghost use Rattle.level_sharing.specs.Agreement.{Agree, Shows};
-ghost use Rattle.level_sharing.specs.Growth.{fresh_events, grown};
+ghost use Rattle.level_sharing.specs.Agreement.{Agree, IsSized};
+ghost use Rattle.level_sharing.specs.Growth.{AreSearched, ShowsGrown, fresh_events, grown};
 ghost use Rattle.level_sharing.specs.Shares.{KeepToColumns};
 
 use crate::search::TopDownSearch;
@@ -44,19 +43,15 @@ pub fn top_down<R: Threads + Sync, G: Gate>(
     gate: &G,
 ) -> Result<(), OutOfMemory>
     requires agree { Agree board.now workers.old forest.now.claims forest.now.leaves }
-    requires rows { length board.now.rows ≡ forest.now.matrix.rows }
-    requires roots { length board.now.roots ≡ cols forest.now.matrix }
+    requires sized { IsSized forest.now board.now }
     requires settled { IsSettled forest.now }
     requires inside { (c : ℕ) → Among c frontier.now → InForest forest.now c }
     ensures legal { Runs forest.entry.now (fresh_events workers.new)
         (grown forest.entry.now workers.new) }
-    ensures words { Shows board.entry.now workers.new (grown forest.entry.now workers.new).claims
-        (grown forest.entry.now workers.new).leaves }
+    ensures words { ShowsGrown board.entry.now forest.entry.now workers.new }
     ensures shares { KeepToColumns frontier.entry.now workers.new }
     ensures settled { OnOk result (IsSettled (grown forest.entry.now workers.new)) }
-    ensures frontier { OnOk result ((c : ℕ) → Among c frontier.entry.now
-        → HasWon (grown forest.entry.now workers.new) c
-        ⊎ IsUsedUp (grown forest.entry.now workers.new) c) }
+    ensures frontier { OnOk result (AreSearched forest.entry.now workers.new frontier.entry.now) }
 {
     top_down_under(rt, forest, board, frontier, workers, &Sharing::usual(gate))
 }
@@ -71,19 +66,15 @@ pub fn top_down_under<R: Threads + Sync, G: Gate>(
     sharing: &Sharing<'_, G>,
 ) -> Result<(), OutOfMemory>
     requires agree { Agree board.now workers.old forest.now.claims forest.now.leaves }
-    requires rows { length board.now.rows ≡ forest.now.matrix.rows }
-    requires roots { length board.now.roots ≡ cols forest.now.matrix }
+    requires sized { IsSized forest.now board.now }
     requires settled { IsSettled forest.now }
     requires inside { (c : ℕ) → Among c frontier.now → InForest forest.now c }
     ensures legal { Runs forest.entry.now (fresh_events workers.new)
         (grown forest.entry.now workers.new) }
-    ensures words { Shows board.entry.now workers.new (grown forest.entry.now workers.new).claims
-        (grown forest.entry.now workers.new).leaves }
+    ensures words { ShowsGrown board.entry.now forest.entry.now workers.new }
     ensures shares { KeepToColumns frontier.entry.now workers.new }
     ensures settled { OnOk result (IsSettled (grown forest.entry.now workers.new)) }
-    ensures frontier { OnOk result ((c : ℕ) → Among c frontier.entry.now
-        → HasWon (grown forest.entry.now workers.new) c
-        ⊎ IsUsedUp (grown forest.entry.now workers.new) c) }
+    ensures frontier { OnOk result (AreSearched forest.entry.now workers.new frontier.entry.now) }
 {
     workers_are_few(workers);
     workers_are_at_the_start();
@@ -114,11 +105,11 @@ struct TopDown<'a, 'p> {
 }
 
 impl<'a, 'p> Work<Worker, OutOfMemory> for TopDown<'a, 'p> {
-    ghost use Rattle.frontier_levels.specs.TopDownSearch.{IsSearch};
+    ghost use Rattle.frontier_levels.specs.TopDownSearch.{IsColumnSearch};
     ghost use Rattle.level_sharing.specs.Progress.{IsAtStart, IsThroughColumns, Progress};
     ghost use Rattle.level_sharing.specs.Shares.{share_of, shares_by_columns};
 
-    ghost can_begin = { λ t i w. IsSearch t.forest.now t.board.now t.frontier.now
+    ghost can_begin = { λ t i w. IsColumnSearch t.forest.now t.board.now t.frontier.now
         × IsAtStart t.forest.now t.board.now t.workers i w };
 
     ghost leaves = { λ t i v w.

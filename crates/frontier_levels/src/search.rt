@@ -1,14 +1,12 @@
 //! One worker's search in a level from the frontier down.
 
-ghost use Rattle.std.specs.Prelude.{◌≡◌, ℕ, ◌<◌, true, false, OnOk};
+ghost use Rattle.std.specs.Prelude.{◌≡◌, ℕ, ◌<◌, OnOk};
 ghost use Rattle.arrayvec.specs.ArrayVec.{array_vec_len};
-ghost use Rattle.bip_defs.specs.Forest.{RootOf};
 ghost use Rattle.bip_defs.specs.Lists.{Among};
-ghost use Rattle.bip_defs.specs.Matrix.{IsEntry, cols, column};
-ghost use Rattle.frontier_levels.specs.TopDownSearch.{HasGathered, IsCoveredColumn, IsSearch, StaysCovered};
-ghost use Rattle.level_sharing.specs.Candidates.{IsCovered};
-ghost use Rattle.level_sharing.specs.Progress.{HasSettled, IsThroughColumns, Progress};
-ghost use Rattle.level_sharing.specs.Shares.{by_columns};
+ghost use Rattle.bip_defs.specs.Matrix.{IsEntry, column};
+ghost use Rattle.frontier_levels.specs.TopDownSearch.{Advances, HasGatheredIn, IsColumnSearch, IsCoveredColumn, StaysCovered};
+ghost use Rattle.level_sharing.specs.Candidates.{IsCovered, IsRootFor};
+ghost use Rattle.level_sharing.specs.Progress.{HasSettled, IsThroughColumns};
 
 use arrayvec::ArrayVec;
 use claim_words::{ClaimBoard, Worker};
@@ -30,11 +28,10 @@ pub(crate) struct TopDownSearch<'a, 'p> {
 impl<'a, 'p> TopDownSearch<'a, 'p> {
     /// The worker goes through all its columns.
     pub fn run(&self, worker: &mut Worker) -> Result<(), OutOfMemory>
-        requires search { IsSearch self.now.forest.now self.now.board.now self.now.share.now }
+        requires search { IsColumnSearch self.now.forest.now self.now.board.now self.now.share.now }
         requires seat { worker.old.seat.board ≡ self.now.board.now }
         requires settled { HasSettled self.now.forest.now worker.old }
-        ensures progress { Progress self.now.forest.now
-            (by_columns self.now.share.now) worker.old worker.new }
+        ensures progress { Advances self.now worker.old worker.new }
         ensures through { OnOk result
             (IsThroughColumns self.now.forest.now self.now.share.now worker.new) }
     {
@@ -54,14 +51,11 @@ impl<'a, 'p> TopDownSearch<'a, 'p> {
         worker: &mut Worker,
         candidates: &mut ArrayVec<Candidate, 512>,
     ) -> Result<(), OutOfMemory>
-        requires search { IsSearch self.now.forest.now self.now.board.now self.now.share.now }
+        requires search { IsColumnSearch self.now.forest.now self.now.board.now self.now.share.now }
         requires col { Among col self.now.share.now }
-        requires gathered { HasGathered self.now.forest.now self.now.board.now self.now.share.now
-            worker.old candidates.old.items }
-        ensures progress { Progress self.now.forest.now
-            (by_columns self.now.share.now) worker.old worker.new }
-        ensures gathered { OnOk result (HasGathered self.now.forest.now self.now.board.now
-            self.now.share.now worker.new candidates.new.items) }
+        requires gathered { HasGatheredIn self.now worker.old candidates.old.items }
+        ensures progress { Advances self.now worker.old worker.new }
+        ensures gathered { OnOk result (HasGatheredIn self.now worker.new candidates.new.items) }
         ensures stays { OnOk result
             (StaysCovered worker.old candidates.old.items worker.new candidates.new.items) }
         ensures column { OnOk result
@@ -84,16 +78,12 @@ impl<'a, 'p> TopDownSearch<'a, 'p> {
         worker: &mut Worker,
         candidates: &mut ArrayVec<Candidate, 512>,
     ) -> Result<(), OutOfMemory>
-        requires search { IsSearch self.now.forest.now self.now.board.now self.now.share.now }
+        requires search { IsColumnSearch self.now.forest.now self.now.board.now self.now.share.now }
         requires col { Among col self.now.share.now }
-        requires root { RootOf self.now.forest.now.base self.now.forest.now.claims root col }
-        requires in_range { root < cols self.now.forest.now.matrix }
-        requires gathered { HasGathered self.now.forest.now self.now.board.now self.now.share.now
-            worker.old candidates.old.items }
-        ensures progress { Progress self.now.forest.now
-            (by_columns self.now.share.now) worker.old worker.new }
-        ensures gathered { OnOk result (HasGathered self.now.forest.now self.now.board.now
-            self.now.share.now worker.new candidates.new.items) }
+        requires root { IsRootFor self.now.forest.now col root }
+        requires gathered { HasGatheredIn self.now worker.old candidates.old.items }
+        ensures progress { Advances self.now worker.old worker.new }
+        ensures gathered { OnOk result (HasGatheredIn self.now worker.new candidates.new.items) }
         ensures stays { OnOk result
             (StaysCovered worker.old candidates.old.items worker.new candidates.new.items) }
         ensures rows { OnOk result ((r : ℕ) → Among r (column self.now.forest.now.matrix col)
@@ -115,17 +105,13 @@ impl<'a, 'p> TopDownSearch<'a, 'p> {
         worker: &mut Worker,
         candidates: &mut ArrayVec<Candidate, 512>,
     ) -> Result<(), OutOfMemory>
-        requires search { IsSearch self.now.forest.now self.now.board.now self.now.share.now }
+        requires search { IsColumnSearch self.now.forest.now self.now.board.now self.now.share.now }
         requires col { Among col self.now.share.now }
         requires entry { IsEntry self.now.forest.now.matrix row col }
-        requires root { RootOf self.now.forest.now.base self.now.forest.now.claims root col }
-        requires in_range { root < cols self.now.forest.now.matrix }
-        requires gathered { HasGathered self.now.forest.now self.now.board.now self.now.share.now
-            worker.old candidates.old.items }
-        ensures progress { Progress self.now.forest.now
-            (by_columns self.now.share.now) worker.old worker.new }
-        ensures gathered { OnOk result (HasGathered self.now.forest.now self.now.board.now
-            self.now.share.now worker.new candidates.new.items) }
+        requires root { IsRootFor self.now.forest.now col root }
+        requires gathered { HasGatheredIn self.now worker.old candidates.old.items }
+        ensures progress { Advances self.now worker.old worker.new }
+        ensures gathered { OnOk result (HasGatheredIn self.now worker.new candidates.new.items) }
         ensures stays { OnOk result
             (StaysCovered worker.old candidates.old.items worker.new candidates.new.items) }
         ensures row { OnOk result (IsCovered worker.new candidates.new.items row root) }
@@ -152,12 +138,9 @@ impl<'a, 'p> TopDownSearch<'a, 'p> {
         worker: &mut Worker,
         candidates: &mut ArrayVec<Candidate, 512>,
     ) -> Result<(), OutOfMemory>
-        requires gathered { HasGathered self.now.forest.now self.now.board.now self.now.share.now
-            worker.old candidates.old.items }
-        ensures progress { Progress self.now.forest.now
-            (by_columns self.now.share.now) worker.old worker.new }
-        ensures gathered { OnOk result (HasGathered self.now.forest.now self.now.board.now
-            self.now.share.now worker.new candidates.new.items) }
+        requires gathered { HasGatheredIn self.now worker.old candidates.old.items }
+        ensures progress { Advances self.now worker.old worker.new }
+        ensures gathered { OnOk result (HasGatheredIn self.now worker.new candidates.new.items) }
         ensures stays { OnOk result
             (StaysCovered worker.old candidates.old.items worker.new candidates.new.items) }
         ensures room { OnOk result (array_vec_len candidates.new < 512) }

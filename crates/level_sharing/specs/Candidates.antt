@@ -1,7 +1,8 @@
 -- Rows that a worker may claim, gathered before any of them is claimed.
 use Rattle.std.specs.Prelude.{◌≡◌, ◌⊎◌, ℕ, ◌<◌, List, length}
-use Rattle.bip_defs.specs.Forest.{State}
+use Rattle.bip_defs.specs.Forest.{InForest, RootOf, State}
 use Rattle.bip_defs.specs.Lists.{Among}
+use Rattle.bip_defs.specs.Matrix.{cols}
 use Rattle.claim_words.specs.Board.{Board}
 use Rattle.claim_words.specs.WorkerState.{WorkerState}
 use Rattle.level_sharing.specs.Agreement.{IsSized}
@@ -54,3 +55,9 @@ pub record HasGathered (s : State) (b : Board) (IsSo : Candidate → Type 0) (w 
   pub seat : w.seat.board ≡ b
   pub settled : HasSettled s w
   pub each : (x : Candidate) → Among x xs → IsSo x
+
+-- the column is in the forest, and this is the root of its tree, which is in range
+pub record IsRootFor (s : State) (col root : ℕ) : Type 0 where
+  pub inside : InForest s col
+  pub rooted : RootOf s.base s.claims root col
+  pub in_range : root < cols s.matrix

@@ -8,7 +8,7 @@ use Rattle.frontier_levels.proofs.levels.top_down_under.Goals as goal
 pub share_work-result-requires-clause-begin : goal.share_work-result-requires-clause-begin
 share_work-result-requires-clause-begin g c κs within =
     all_may_begin c.args.forest.now c.args.board.now c.args.frontier.now (length c.args.workers.now) 0 c.args.workers.now
-    (record { rows = c.requires.rows; roots = c.requires.roots; inside = c.requires.inside })
+    (record { sized = c.requires.sized; each = c.requires.inside })
     (c.workers_are_at_the_start.ensures c.args.forest.now c.args.board.now c.args.workers.now c.args.forest.now.claims c.args.forest.now.leaves c.requires.agree)
 
 pub gather-requires : goal.gather-requires

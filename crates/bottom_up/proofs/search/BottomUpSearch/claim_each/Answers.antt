@@ -10,21 +10,21 @@ use Rattle.bottom_up.proofs.SearchLemmas.{same_board}
 use Rattle.bottom_up.proofs.search.BottomUpSearch.claim_each.Goals as goal
 
 pub claim-requires-clause-candidate : goal.claim-requires-clause-candidate
-claim-requires-clause-candidate c = c.requires.gathered.candidates c.candidate-item.result (read_among c.candidate-item.result c.args.candidates.now c.loop-candidate.candidate-index c.loop-candidate-test.true c.candidate-item.is)
+claim-requires-clause-candidate c = (c.requires.gathered.each c.candidate-item.result (read_among c.candidate-item.result c.args.candidates.now c.loop-candidate.candidate-index c.loop-candidate-test.true c.candidate-item.is)).1
 
 pub returns-in_err-claim-clause-progress : goal.returns-in_err-claim-clause-progress
 returns-in_err-claim-clause-progress c =
-    let own = c.requires.gathered.own c.candidate-item.result (read_among c.candidate-item.result c.args.candidates.now c.loop-candidate.candidate-index c.loop-candidate-test.true c.candidate-item.is) in
+    let own = (c.requires.gathered.each c.candidate-item.result (read_among c.candidate-item.result c.args.candidates.now c.loop-candidate.candidate-index c.loop-candidate-test.true c.candidate-item.is)).0 in
     c.steps_are_progress.ensures.on c.args.self.now.forest.now (of_rows c.args.self.now.free.now) _ _ _ c.loop-candidate.invariant.progress (c.claim.ensures.progress (of_rows c.args.self.now.free.now) (λ d. own))
 
 pub returns-in_err-claim-clause-seat : goal.returns-in_err-claim-clause-seat
 returns-in_err-claim-clause-seat c =
-    let own = c.requires.gathered.own c.candidate-item.result (read_among c.candidate-item.result c.args.candidates.now c.loop-candidate.candidate-index c.loop-candidate-test.true c.candidate-item.is) in
+    let own = (c.requires.gathered.each c.candidate-item.result (read_among c.candidate-item.result c.args.candidates.now c.loop-candidate.candidate-index c.loop-candidate-test.true c.candidate-item.is)).0 in
     same_board _ _ _ _ (c.claim.ensures.progress (of_rows c.args.self.now.free.now) (λ d. own)) ∙ c.loop-candidate.invariant.seat
 
 pub loop-candidate-preserved : goal.loop-candidate-preserved
 loop-candidate-preserved c =
-    let own = c.requires.gathered.own c.candidate-item.result (read_among c.candidate-item.result c.args.candidates.now c.loop-candidate.candidate-index c.loop-candidate-test.true c.candidate-item.is) in
+    let own = (c.requires.gathered.each c.candidate-item.result (read_among c.candidate-item.result c.args.candidates.now c.loop-candidate.candidate-index c.loop-candidate-test.true c.candidate-item.is)).0 in
     let step = c.claim.ensures.progress (of_rows c.args.self.now.free.now) (λ d. own) in
     record {
       seat = same_board _ _ _ _ step ∙ c.loop-candidate.invariant.seat;

@@ -1,7 +1,7 @@
 use Rattle.std.proofs.Common.{◌≡◌, take}
 use Rattle.bip_defs.specs.Lists.{Among}
-use Rattle.level_sharing.specs.Progress.{HasSettled, IsThroughRow, Progress}
-use Rattle.level_sharing.specs.Shares.{of_rows}
+use Rattle.bottom_up.specs.Candidates.{Advances}
+use Rattle.level_sharing.specs.Progress.{HasSettled, IsThroughRow}
 use Rattle.level_sharing.specs.declared.candidate.Candidate.{Candidate}
 use Rattle.bottom_up.proofs.search.BottomUpSearch.claim_each.Given as goal
 
@@ -9,6 +9,6 @@ abbrev pub invariant-loop-candidate : goal.invariant-loop-candidate
 invariant-loop-candidate l = record {
   seat : l.worker.seat.board ≡ l.self.board.now;
   settled : HasSettled l.self.forest.now l.worker;
-  progress : Progress l.self.forest.now (of_rows l.self.free.now) l.fn.worker l.worker;
+  progress : Advances l.self.forest.now l.self.free.now l.fn.worker l.worker;
   through : (x : Candidate) → Among x (take l.candidate-index l.candidates) → IsThroughRow l.self.forest.now l.worker x.row;
 }

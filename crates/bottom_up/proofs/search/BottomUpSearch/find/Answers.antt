@@ -23,9 +23,9 @@ returns-in-Some-clause-progress c = λ own. c.steps_are_progress.ensures.on c.ar
 pub returns-in-Some-clause-candidate : goal.returns-in-Some-clause-candidate
 returns-in-Some-clause-candidate c = record {
   entry = entry_at _ _ c.args.row _ _ _ c.pattern.ensures c.cols_of-cols.ensures.cols c.loop-col-test.true c.col-item.is;
-  inside = c.in-Some.ensures.inside;
-  rooted = c.in-Some.ensures.root;
-  in_range = c.in-Some.ensures.in_range;
+  inside = c.in-Some.ensures.root.inside;
+  rooted = c.in-Some.ensures.root.rooted;
+  in_range = c.in-Some.ensures.root.in_range;
   mated = λ f. c.is_matched-free.ensures.0 (not-false c.is_matched-free.result f);
   is_free = λ t m. true≢false (sym (c.is_matched-free.ensures.1 m) ∙ not-true c.is_matched-free.result t);
 }
@@ -38,5 +38,5 @@ loop-col-preserved c = record {
   progress = λ own. c.steps_are_progress.ensures.on c.args.self.now.forest.now own _ _ _ (c.loop-col.invariant.progress own) (c.root_without_leaf.ensures.progress own);
   settled = c.root_without_leaf.ensures.settled;
   won = each_more (λ d. InForest c.args.self.now.forest.now d → KnowsWon c.args.self.now.forest.now c.root_without_leaf.new.worker d) c.cols_of-cols.result.now c.loop-col.col-index c.col-item.result c.loop-col-test.true c.col-item.is
-      (λ d h inside. c.steps_are_remembered.ensures.won c.args.self.now.forest.now (of_rows []) _ _ d (c.root_without_leaf.ensures.progress (of_rows [])) (c.loop-col.invariant.won d h inside)) c.in_default.ensures.none;
+      (λ d h inside. (c.steps_are_remembered.ensures.known c.args.self.now.forest.now (of_rows []) _ _ (c.root_without_leaf.ensures.progress (of_rows []))).won d (c.loop-col.invariant.won d h inside)) c.in_default.ensures.none;
 }

@@ -3,7 +3,8 @@ use Rattle.std.proofs.lemmas.List.{take_all}
 use Rattle.bip_defs.specs.Lists.{Among}
 use Rattle.bip_defs.proofs.Results.{ok_both}
 use Rattle.bip_defs.proofs.Slices.{each_more, read_among}
-use Rattle.bottom_up.specs.Candidates.{HasGathered, IsCovered}
+use Rattle.bottom_up.specs.Candidates.{IsCoveredRow}
+use Rattle.bottom_up.specs.Candidates.{HasGatheredRows}
 use Rattle.level_sharing.specs.declared.candidate.Candidate.{Candidate}
 use Rattle.bottom_up.proofs.search.BottomUpSearch.go_through.Goals as goal
 
@@ -19,13 +20,13 @@ loop-row-preserved c =
     record {
       progress = c.steps_are_progress.ensures.on _ _ _ _ _ c.loop-row.invariant.progress step.progress;
       gathered = step.gathered;
-      covered = each_more (λ r. IsCovered c.args.self.now.forest.now c.gather.new.worker c.gather.new.candidates.items r) c.args.self.now.free.now c.loop-row.row-index c.row-item.result c.loop-row-test.true c.row-item.is
+      covered = each_more (λ r. IsCoveredRow c.args.self.now.forest.now c.gather.new.worker c.gather.new.candidates.items r) c.args.self.now.free.now c.loop-row.row-index c.row-item.result c.loop-row-test.true c.row-item.is
           (λ r h. step.stays r (c.loop-row.invariant.covered r h)) step.row;
     }
 
 pub claim_each-requires : goal.claim_each-requires
 claim_each-requires c = record {
-  gathered = subst (λ (l : List Candidate). HasGathered c.args.self.now.forest.now c.args.self.now.board.now c.args.self.now.free.now c.loop-row.worker l) (sym c.as_slice.ensures.value) c.loop-row.invariant.gathered;
+  gathered = subst (λ (l : List Candidate). HasGatheredRows c.args.self.now.forest.now c.args.self.now.board.now c.args.self.now.free.now c.loop-row.worker l) (sym c.as_slice.ensures.value) c.loop-row.invariant.gathered;
 }
 
 pub returns-clause-progress : goal.returns-clause-progress
@@ -35,6 +36,6 @@ pub returns-clause-through : goal.returns-clause-through
 returns-clause-through c = ok_both c.claim_each.result
     (λ settled through. record {
       settled = settled;
-      rows = λ r h. through r (subst (λ (l : List Candidate). IsCovered c.args.self.now.forest.now c.loop-row.worker l r) (sym c.as_slice.ensures.value) (c.loop-row.invariant.covered r (subst (Among r) (sym (take_all _ _ c.loop-row-test.false)) h)));
+      rows = λ r h. through r (subst (λ (l : List Candidate). IsCoveredRow c.args.self.now.forest.now c.loop-row.worker l r) (sym c.as_slice.ensures.value) (c.loop-row.invariant.covered r (subst (Among r) (sym (take_all _ _ c.loop-row-test.false)) h)));
     })
     c.claim_each.ensures.settled c.claim_each.ensures.through

@@ -5,7 +5,10 @@ use Rattle.frontier_levels.proofs.SearchLemmas.{gathered_on}
 use Rattle.frontier_levels.proofs.search.TopDownSearch.gather.Goals as goal
 
 pub root-root-requires : goal.root-root-requires
-root-root-requires c = c.requires.search.inside c.args.col c.requires.col
+root-root-requires c = c.requires.search.each c.args.col c.requires.col
+
+pub gather_rows-requires-clause-root : goal.gather_rows-requires-clause-root
+gather_rows-requires-clause-root c = record { inside = c.requires.search.each c.args.col c.requires.col; rooted = c.root-root.ensures.root; in_range = c.root-root.ensures.in_range }
 
 pub gather_rows-requires-clause-gathered : goal.gather_rows-requires-clause-gathered
 gather_rows-requires-clause-gathered c = gathered_on _ _ _ _ _ _ c.finds_leaf.ensures.seat (c.finds_leaf.ensures.settled c.args.self.now.forest.now) c.requires.gathered
@@ -17,7 +20,7 @@ pub returns-then-finds_leaf-clause-stays : goal.returns-then-finds_leaf-clause-s
 returns-then-finds_leaf-clause-stays c =
     let s = c.args.self.now.forest.now in
     let own = by_columns c.args.self.now.share.now in
-    λ row root. c.steps_are_remembered.ensures.covered s own _ _ _ row root (c.finds_leaf.ensures.progress s own)
+    λ row root. (c.steps_are_remembered.ensures.known s own _ _ (c.finds_leaf.ensures.progress s own)).covered _ row root
 
 pub returns-then-finds_leaf-clause-column : goal.returns-then-finds_leaf-clause-column
 returns-then-finds_leaf-clause-column c = (c.root-root.result, c.root-root.ensures.root, inl (c.finds_leaf.ensures.leaf c.if-finds_leaf.true))
@@ -32,4 +35,4 @@ pub returns-clause-stays : goal.returns-clause-stays
 returns-clause-stays c =
     let s = c.args.self.now.forest.now in
     let own = by_columns c.args.self.now.share.now in
-    on_ok_weaker c.gather_rows.result (λ stays row root covered. stays row root (c.steps_are_remembered.ensures.covered s own _ _ _ row root (c.finds_leaf.ensures.progress s own) covered)) c.gather_rows.ensures.stays
+    on_ok_weaker c.gather_rows.result (λ stays row root covered. stays row root ((c.steps_are_remembered.ensures.known s own _ _ (c.finds_leaf.ensures.progress s own)).covered _ row root covered)) c.gather_rows.ensures.stays

@@ -1,7 +1,7 @@
 use Rattle.std.proofs.Common.{◌∙◌, ◌<◌, List, inl, length, not, subst, sym, true≢false}
 use Rattle.std.proofs.lemmas.Bool.{not-false, not-true}
-use Rattle.frontier_levels.specs.TopDownSearch.{HasGathered, StaysCovered}
-use Rattle.level_sharing.specs.Candidates.{IsCovered}
+use Rattle.frontier_levels.specs.TopDownSearch.{FitsColumns, StaysCovered}
+use Rattle.level_sharing.specs.Candidates.{HasGathered, IsCovered}
 use Rattle.level_sharing.specs.Progress.{CanClaim}
 use Rattle.level_sharing.specs.Shares.{by_columns}
 use Rattle.level_sharing.specs.declared.candidate.Candidate.{Candidate}
@@ -20,7 +20,7 @@ pub returns-then-finds_holder-clause-stays : goal.returns-then-finds_holder-clau
 returns-then-finds_holder-clause-stays c =
     let s = c.args.self.now.forest.now in
     let own = by_columns c.args.self.now.share.now in
-    λ row root. c.steps_are_remembered.ensures.covered s own _ _ _ row root (c.finds_holder.ensures.progress s own)
+    λ row root. (c.steps_are_remembered.ensures.known s own _ _ (c.finds_holder.ensures.progress s own)).covered _ row root
 
 pub returns-then-finds_holder-clause-row : goal.returns-then-finds_holder-clause-row
 returns-then-finds_holder-clause-row c = inl (inl (c.finds_holder.ensures.holder c.if-finds_holder.true))
@@ -44,14 +44,14 @@ returns-clause-gathered c =
     let can : CanClaim s (by_columns c.args.self.now.share.now) c.args.row c.args.col c.args.root (not c.is_matched-free.result) = record {
       is_own = c.requires.col;
       entry = c.requires.entry;
-      inside = c.requires.search.inside c.args.col c.requires.col;
-      rooted = c.requires.root;
+      inside = c.requires.root.inside;
+      rooted = c.requires.root.rooted;
       mated = λ f. c.is_matched-free.ensures.0 (not-false c.is_matched-free.result f);
       is_free = λ t m. true≢false (sym (c.is_matched-free.ensures.1 m) ∙ not-true c.is_matched-free.result t);
     } in
-    let row : c.args.row < length b.rows = subst (λ n. c.args.row < n) (sym c.requires.search.rows) c.requires.entry.0 in
-    let root : c.args.root < length b.roots = subst (λ n. c.args.root < n) (sym c.requires.search.roots) c.requires.in_range in
-    subst (λ (l : List Candidate). HasGathered s b c.args.self.now.share.now c.make_room.new.worker l) (sym c.push.ensures.items)
+    let row : c.args.row < length b.rows = subst (λ n. c.args.row < n) (sym c.requires.search.sized.rows) c.requires.entry.0 in
+    let root : c.args.root < length b.roots = subst (λ n. c.args.root < n) (sym c.requires.search.sized.roots) c.requires.root.in_range in
+    subst (λ (l : List Candidate). HasGathered s b (FitsColumns s b c.args.self.now.share.now) c.make_room.new.worker l) (sym c.push.ensures.items)
     (gathered_more s b c.args.self.now.share.now c.make_room.new.worker c.make_room.new.candidates.items (record { row = c.args.row; col = c.args.col; root = c.args.root; free = not c.is_matched-free.result }) can (row, root) c.in_ok-make_room.ensures.gathered)
 
 pub returns-clause-stays : goal.returns-clause-stays
@@ -61,7 +61,7 @@ returns-clause-stays c =
     let w = c.make_room.new.worker in
     let xs = c.make_room.new.candidates.items in
     let more : StaysCovered w xs w c.push.new.self.items = subst (λ (l : List Candidate). StaysCovered w xs w l) (sym c.push.ensures.items) (stays_more w xs (record { row = c.args.row; col = c.args.col; root = c.args.root; free = not c.is_matched-free.result })) in
-    λ row root covered. more row root (c.in_ok-make_room.ensures.stays row root (c.steps_are_remembered.ensures.covered s own _ _ _ row root (c.finds_holder.ensures.progress s own) covered))
+    λ row root covered. more row root (c.in_ok-make_room.ensures.stays row root ((c.steps_are_remembered.ensures.known s own _ _ (c.finds_holder.ensures.progress s own)).covered _ row root covered))
 
 pub returns-clause-row : goal.returns-clause-row
 returns-clause-row c =

@@ -8,7 +8,7 @@ use Rattle.level_sharing.specs.Shares.{by_columns}
 use Rattle.frontier_levels.proofs.search.TopDownSearch.gather_rows.Goals as goal
 
 pub rows_of-row-items-requires : goal.rows_of-row-items-requires
-rows_of-row-items-requires c = rw c.pattern.ensures ((c.requires.search.inside c.args.col c.requires.col).0)
+rows_of-row-items-requires c = rw c.pattern.ensures (c.requires.root.inside.0)
 
 pub gather_row-requires-clause-entry : goal.gather_row-requires-clause-entry
 gather_row-requires-clause-entry c =

@@ -23,31 +23,31 @@ loop-col-preserved c =
       gathered = step.gathered;
       columns = each_more (λ d. IsCoveredColumn s c.gather.new.worker c.gather.new.candidates.items d) c.args.self.now.share.now c.loop-col.col-index c.col-item.result c.loop-col-test.true c.col-item.is
           (λ d m. column_stays s c.loop-col.worker c.gather.new.worker c.loop-col.candidates.items c.gather.new.candidates.items d
-          (λ x. c.steps_are_remembered.ensures.leaf s own c.loop-col.worker c.gather.new.worker x step.progress) step.stays (c.loop-col.invariant.columns d m))
+          (c.steps_are_remembered.ensures.known s own c.loop-col.worker c.gather.new.worker step.progress).leaf step.stays (c.loop-col.invariant.columns d m))
           step.column;
     }
 
 pub claim_all-requires-clause-on_board : goal.claim_all-requires-clause-on_board
-claim_all-requires-clause-on_board c = subst (λ (l : List Candidate). AreOnBoard c.args.self.now.board.now l) (sym c.as_slice.ensures.value) c.loop-col.invariant.gathered.on_board
+claim_all-requires-clause-on_board c = subst (λ (l : List Candidate). AreOnBoard c.args.self.now.board.now l) (sym c.as_slice.ensures.value) (λ x m. (c.loop-col.invariant.gathered.each x m).1)
 
 pub returns-clause-progress : goal.returns-clause-progress
 returns-clause-progress c =
     let s = c.args.self.now.forest.now in
     let own = by_columns c.args.self.now.share.now in
-    let all = subst (λ (l : List Candidate). AreCandidates s own l) (sym c.as_slice.ensures.value) c.loop-col.invariant.gathered.candidates in
+    let all = subst (λ (l : List Candidate). AreCandidates s own l) (sym c.as_slice.ensures.value) (λ x m. (c.loop-col.invariant.gathered.each x m).0) in
     c.steps_are_progress.ensures.on s own c.args.worker.now c.loop-col.worker c.claim_all.new.worker c.loop-col.invariant.progress (c.claim_all.ensures.progress s own all)
 
 pub returns-clause-through : goal.returns-clause-through
 returns-clause-through c =
     let s = c.args.self.now.forest.now in
     let own = by_columns c.args.self.now.share.now in
-    let all = subst (λ (l : List Candidate). AreCandidates s own l) (sym c.as_slice.ensures.value) c.loop-col.invariant.gathered.candidates in
+    let all = subst (λ (l : List Candidate). AreCandidates s own l) (sym c.as_slice.ensures.value) (λ x m. (c.loop-col.invariant.gathered.each x m).0) in
     let last : Progress s own c.loop-col.worker c.claim_all.new.worker = c.claim_all.ensures.progress s own all in
     ok_both c.claim_all.result
     (λ settled decided. record {
       settled = settled s own all c.loop-col.invariant.gathered.settled;
       columns = λ d m. through_column s c.loop-col.worker c.claim_all.new.worker c.as_slice.result.now d
-          (λ x. c.steps_are_remembered.ensures.leaf s own c.loop-col.worker c.claim_all.new.worker x last)
+          (c.steps_are_remembered.ensures.known s own c.loop-col.worker c.claim_all.new.worker last).leaf
           (decided s own all)
           (subst (λ (l : List Candidate). IsCoveredColumn s c.loop-col.worker l d) (sym c.as_slice.ensures.value)
           (c.loop-col.invariant.columns d (subst (λ (l : List ℕ). Among d l) (sym (take_all c.loop-col.col-index c.args.self.now.share.now c.loop-col-test.false)) m)));
