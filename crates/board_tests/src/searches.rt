@@ -28,7 +28,7 @@ use std::test::Fail;
 use std::thread::Threads;
 use test_gates::BarrierGate;
 use test_matrices::{matching_of, pattern_of};
-use tree_graft::{Plan, Sizes, complete, complete_under};
+use tree_graft::{Plan, SearchSizes, complete, complete_under};
 
 #[rattlefmt::skip]
 const PLACES: [(u32, u32); 21] = [
@@ -68,7 +68,7 @@ fn lines(rows: u32) -> u64 {
 fn plan(workers: u32, serial_to_the_end: u64, worth_threads: u32) -> Plan
     ensures { result.workers ≡ workers }
 {
-    let sizes = Sizes {
+    let sizes = SearchSizes {
         serial_to_the_end,
         worth_threads,
     };

@@ -27,7 +27,7 @@ use crate::levels::{can_grow, grow};
 use forest_core::{Forest, claims_and_wins_grow, done_is_maximum, events_keep_sound, runs_join};
 use level_sharing::Sharing;
 pub use maximum::{complete, complete_under, complete_with_marks};
-pub use sizes::{Plan, Sizes, USUAL_SIZES};
+pub use sizes::{Plan, SearchSizes, USUAL_SIZES};
 use sp_ids::OutOfMemory;
 use sp_ports::Gate;
 use std::alloc::Global;

@@ -6,7 +6,7 @@ use level_sharing::WORTH_THREADS;
 
 /// The sizes at which a search goes another way. Whatever they are, the same comes out.
 #[derive(Clone, Copy)]
-pub struct Sizes {
+pub struct SearchSizes {
     /// Of so many rows and columns together serial phases go on until the matching is maximum. Of
     /// more they are left to match what they find fast, and workers do the rest.
     pub serial_to_the_end: u64,
@@ -18,7 +18,7 @@ pub struct Sizes {
 
 /// Those at which a user's search goes another way: 6,000,000 rows and columns, of which more are
 /// searched sooner by workers, and 500,000 items that are worth threads.
-pub const USUAL_SIZES: Sizes = Sizes {
+pub const USUAL_SIZES: SearchSizes = SearchSizes {
     serial_to_the_end: 6_000_000,
     worth_threads: WORTH_THREADS,
 };
@@ -27,7 +27,7 @@ pub const USUAL_SIZES: Sizes = Sizes {
 #[derive(Clone, Copy)]
 pub struct Plan {
     pub workers: u32,
-    pub sizes: Sizes,
+    pub sizes: SearchSizes,
 }
 
 impl Plan {

@@ -6,7 +6,7 @@ ghost use Rattle.tree_graft.specs.Counts.{FreesFew, IsCountOf};
 ghost use Rattle.tree_graft.specs.PhaseSearch.{IsUnclaimed};
 
 use crate::counts::{freed_count, kept_count, unclaimed_count};
-use crate::sizes::Sizes;
+use crate::sizes::SearchSizes;
 use forest_core::Forest;
 use sp_ids::Col;
 use sp_pattern::Pattern;
@@ -49,6 +49,6 @@ pub fn trees_stay(forest: &Forest) -> bool
 
 /// Whether a pattern has more rows and columns together than serial phases search to the end: the
 /// boards of a phase by workers cost more than it saves where they are few.
-pub fn is_large(pattern: &Pattern, sizes: &Sizes) -> bool {
+pub fn is_large(pattern: &Pattern, sizes: &SearchSizes) -> bool {
     u64::from(pattern.rows()) + u64::from(pattern.cols()) > sizes.serial_to_the_end
 }
