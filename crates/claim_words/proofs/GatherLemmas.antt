@@ -11,11 +11,13 @@ use Rattle.claim_words.proofs.AccountLemmas.{accounts_moved}
 use Rattle.claim_words.proofs.SettledWords.{claims_of, seen_of, wins_of}
 
 pub gathering : IsGathering followed_by all_listed
-gathering = record { last = λ ls l m. λ i. record {
-  claims = flat_last (λ (k : Listed). k.claims) ls l m.claims i;
-  wins = flat_last (λ (k : Listed). k.wins) ls l m.wins i;
-  seen = flat_last (λ (k : Listed). k.seen) ls l m.seen i;
-} }
+gathering = record {
+  last = λ ls l m. λ i. record {
+    claims = flat_last (λ (k : Listed). k.claims) ls l m.claims i;
+    wins = flat_last (λ (k : Listed). k.wins) ls l m.wins i;
+    seen = flat_last (λ (k : Listed). k.seen) ls l m.seen i;
+  };
+}
 
 -- All seats of a board.
 

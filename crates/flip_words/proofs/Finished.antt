@@ -38,12 +38,14 @@ pub record IsJoined (b : Board) (whole : Listed) (others : List Seat) (first : S
   pub lists : followed_by (all_listed (lists_of others)) first.listed ≡ whole
 
 gathering : IsGathering followed_by all_listed
-gathering = record { last = λ ls l m. λ i. record {
-  taken = flat_last (λ (k : Listed). k.taken) ls l m.taken i;
-  seen = flat_last (λ (k : Listed). k.seen) ls l m.seen i;
-  sets = flat_last (λ (k : Listed). k.sets) ls l m.sets i;
-  looks = flat_last (λ (k : Listed). k.looks) ls l m.looks i;
-} }
+gathering = record {
+  last = λ ls l m. λ i. record {
+    taken = flat_last (λ (k : Listed). k.taken) ls l m.taken i;
+    seen = flat_last (λ (k : Listed). k.seen) ls l m.seen i;
+    sets = flat_last (λ (k : Listed). k.sets) ls l m.sets i;
+    looks = flat_last (λ (k : Listed). k.looks) ls l m.looks i;
+  };
+}
 
 module _ {b : Board} {whole : Listed} {others : List Seat} {first : Seat} (rest : List Seat) (last : Seat) (j : IsJoined b whole others first) (popped : others ≡ rest ++ last ∷ []) where
   pub last_is : AreNumbered b 1 rest × (last.board ≡ b) × (last.number ≡ 1 + length rest)
