@@ -50,9 +50,9 @@ pub record SearchesFor (p : Place) (a : Matrix) (m : List Place) (marks : List B
   -- none: they become a pair
   pub paired : ¬ Among p.1 (cols_of m) → ¬ Among p.0 (rows_of m) → IsPaired p m n × (after ≡ before)
 
--- the same between two states of a session
-abbrev pub SetSearches : Place → MatchedMatrix → MatchedMatrix → ℕ → ℕ → Type 0
-SetSearches p old new before after = SearchesFor p new.matrix old.matching.pairs old.marks new.matching.pairs new.marks before after
+-- the same between two states of a session, where a search is needed
+abbrev pub Searches : Place → MatchedMatrix → MatchedMatrix → ℕ → ℕ → Type 0
+Searches p old new before after = ¬ NeedsNoSearch p old → SearchesFor p new.matrix old.matching.pairs old.marks new.matching.pairs new.marks before after
 
 -- p is a new entry of the matrix a, whose transpose is b: the matching and the cover are those without it
 pub record IsNewEntry (p : Place) (a b : Matrix) (m : Pairing) (marks : List Bool) : Type 0 where

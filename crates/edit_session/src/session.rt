@@ -8,7 +8,7 @@ ghost use Rattle.bip_defs.specs.Matching.{IsRank};
 ghost use Rattle.bip_defs.specs.Matrix.{IsEntry, cols, entry_count};
 ghost use Rattle.bip_graph.specs.Decompositions.{Decomposes, components_of};
 ghost use Rattle.bip_graph.specs.Matching.{IsMaximumOf};
-ghost use Rattle.edit_session.specs.Sessions.{ClearSearches, IsKept, IsNewEntry, IsSettled, MatchedMatrix, NeedsNoSearch, SearchesFor, SetSearches};
+ghost use Rattle.edit_session.specs.Sessions.{ClearSearches, IsKept, IsNewEntry, IsSettled, MatchedMatrix, NeedsNoSearch, SearchesFor, Searches};
 ghost use Rattle.vertex_cover.specs.Covers.{IsCover};
 ghost use Rattle.sp_ids.specs.Limits.{max_entries};
 
@@ -185,8 +185,7 @@ impl Session {
         ensures steps { steps.new ≤ steps.old
             + (cols self.old.matrix + entry_count (with_place self.old.matrix (row, col))) }
         ensures no_search { NeedsNoSearch (row, col) self.old → steps.new ≡ steps.old }
-        ensures searched { OnOk result (¬ NeedsNoSearch (row, col) self.old
-            → SetSearches (row, col) self.old self.new steps.old steps.new) }
+        ensures searched { OnOk result (Searches (row, col) self.old self.new steps.old steps.new) }
     {
         self.columns.is_pattern();
         self.rows.is_pattern();

@@ -4,7 +4,7 @@ use Rattle.bip_defs.specs.Matrix.{IsEntry, Matrix, cols, entry_count}
 use Rattle.bip_defs.proofs.EditLemmas.{with_place_new, without_goes_back}
 use Rattle.bip_graph.specs.Matching.{IsMatchingOf}
 use Rattle.sp_ids.specs.Limits.{max_entries}
-use Rattle.edit_session.specs.Sessions.{MatchedMatrix, NeedsNoSearch, SetSearches}
+use Rattle.edit_session.specs.Sessions.{MatchedMatrix, NeedsNoSearch, Searches}
 use Rattle.edit_session.proofs.SessionLemmas.{matched, room_left, set_again, set_cover, set_matching, set_rows, set_saturating, turned_room_left}
 use Rattle.edit_session.proofs.TransposeLemmas.{turned_few, turned_within}
 use Rattle.edit_session.proofs.session.Session.set.Goals as goal
@@ -64,7 +64,7 @@ returns-clause-searched g c =
     let a = c.self.inside.columns.matrix in
     let put : c.insert.new.self.matrix ≡ with_place a (c.args.row, c.args.col) = c.insert.ensures.matrix ∙ ap (λ (b : Matrix). with_place b (c.args.row, c.args.col)) c.in_ok-make_room.ensures.matrix in
     let saturates = set_saturating a c.insert.new.self.matrix c.self.inside.matching.pairs (c.args.row, c.args.col) put in
-    subst (λ (w : MatchedMatrix). ¬ NeedsNoSearch (c.args.row, c.args.col) w → SetSearches (c.args.row, c.args.col) w (matched c.insert.new.self.matrix c.match_entry.new.matching c.match_entry.new.cover) c.args.steps.now c.match_entry.new.steps) c.self.view_is
+    subst (λ (w : MatchedMatrix). Searches (c.args.row, c.args.col) w (matched c.insert.new.self.matrix c.match_entry.new.matching c.match_entry.new.cover) c.args.steps.now c.match_entry.new.steps) c.self.view_is
     (λ unsettled. c.match_entry.ensures.searched (λ settled. unsettled (inr (⊎_elim (λ full. inl (saturates.1 full)) (λ had. inr had) settled))))
 
 pub returns-clause-no_search : goal.returns-clause-no_search
