@@ -16,9 +16,9 @@ use crate::compare::{
 };
 use crate::pairs::matching_of;
 use bip_graph::{Matching, Parts};
-use report_reader::Report;
 use dm_coarse::{coarse_if_maximum, components};
 use dm_fine::fine;
+use report_reader::Report;
 use sp_ids::{Col, OutOfMemory, Row};
 use sp_pattern::Pattern;
 use std::alloc::Global;
