@@ -2,7 +2,7 @@
 use Rattle.std.proofs.Common.{◌≡◌, ◌↔◌, ℕ, ◌<◌, List, arith, inl, inr}
 use Rattle.std.proofs.Math.Decide.{dec_lt, ℕ_discrete}
 use Rattle.bip_defs.specs.Bottleneck.{IsFull}
-use Rattle.bip_defs.specs.Matching.{IsMaximum, IsRank}
+use Rattle.bip_defs.specs.Matching.{IsRank}
 use Rattle.bip_defs.specs.Matrix.{Matrix, Place, cols}
 use Rattle.bip_defs.proofs.BottleneckLemmas.{full_length}
 use Rattle.bip_defs.proofs.Full.{has_all_cols, has_all_rows, matching_few}

@@ -1,5 +1,5 @@
 -- What is told of a matrix is what its report says.
-use Rattle.std.proofs.Common.{◌≡◌, ◌∙◌, ◌↔◌, ℕ, Bool, true, List, length, Option, None, Some, IfSome, ap, subst, sym, le_antisymm}
+use Rattle.std.proofs.Common.{◌≡◌, ◌∙◌, ℕ, Bool, true, List, length, Option, None, Some, IfSome, ap, subst, le_antisymm}
 use Rattle.bip_defs.specs.ConnectedComponents.{Components}
 use Rattle.bip_defs.specs.Decomposition.{Decomposition, IsDecompositionOf}
 use Rattle.bip_defs.specs.Matrix.{Matrix, Place}

@@ -13,13 +13,17 @@ use Rattle.sp_pattern.specs.Columns.{AreColumns, matrix_of}
 use Rattle.sp_pattern.specs.ValuedColumns.{entries_given}
 use Rattle.sp_pattern.specs.Weights.{AreWeightsOf, Weighing, weight_at}
 
+-- the weights are those of the columns' matrix, by the values
+abbrev pub AreColumnWeights : ℕ → List ℕ → List ℕ → List ℤ → Weighing → Type 0
+AreColumnWeights rows starts ids values w =
+    AreWeightsOf (entries_given rows starts ids values) (matrix_of rows starts ids) w
+
 -- the lists are compressed columns with values, and P holds of their matrix with its weights
 pub record HasWeights (rows : ℕ) (starts ids : List ℕ) (values : List ℤ)
     (P : Weighing → Type 0) : Type 0 where
   pub columns : AreColumns rows starts ids
   pub weighing : Weighing
-  pub weights : AreWeightsOf (entries_given rows starts ids values) (matrix_of rows starts ids)
-      weighing
+  pub weights : AreColumnWeights rows starts ids values weighing
   pub holds : P weighing
 
 -- the number of two words

@@ -1,11 +1,21 @@
 -- Prices of rows that are raised from below until they are fair.
 use Rattle.std.specs.Int.RustNames.{unsigned_abs}
-use Rattle.std.specs.Prelude.{◌≡◌, ℕ, ℤ, pos, ◌+ℤ◌, ◌-ℤ◌, ◌≤ℤ◌, ◌<◌, List, length, slice_index, slice_index_or, sum_by}
+use Rattle.std.specs.Prelude.{◌≡◌, ℕ, ℤ, pos, ◌+ℤ◌, ◌-ℤ◌, ◌≤ℤ◌, ◌<◌, ◌≤◌, Bool, IsTrue, List, length, slice_index, slice_index_or, sum_by}
+use Rattle.bip_defs.specs.Bottleneck.{IsFull}
 use Rattle.bip_defs.specs.Lists.{Among}
 use Rattle.bip_defs.specs.Matrix.{IsEntry, Place}
 use Rattle.blocktri.specs.Diagonals.{AreNarrow}
 use Rattle.integer_diagonal.specs.Prices.{AreFair, price}
 use Rattle.sp_pattern.specs.Weights.{Weighing, weight_at, weight_limit}
+
+-- a diagonal for which prices are looked for, in a matrix whose weights are within the limit
+pub record IsDiagonal (w : Weighing) (m : List Place) : Type 0 where
+  pub full : IsFull w.matrix m
+  pub small : (r c : ℕ) → IsEntry w.matrix r c → weight_at w r c ≤ weight_limit
+
+-- none of its fair prices all fit 64 bits
+abbrev pub HasNoNarrow : Weighing → List Place → Type 0
+HasNoNarrow w m = (u v : List ℤ) → AreFair w m u v → AreNarrow u → AreNarrow v → ⊥
 
 -- no price is greater than the greatest of 64 bits
 abbrev pub AreAtMost : List ℤ → Type 0
@@ -31,6 +41,15 @@ pub record AreRaised (rows weights : List ℕ) (base : ℤ) (k : ℕ) (old new :
   pub least : (x : List ℤ) → ((r : ℕ) → r < length old → price old r ≤ℤ price x r)
       → AreMet rows weights base k x → (r : ℕ) → r < length old → price new r ≤ℤ price x r
   pub within : AreAtMost new
+
+-- the entries of a column have raised prices no higher than they ask for, or there was nothing to
+-- raise
+pub record HasRaised (rows weights : List ℕ) (base : ℤ) (old new : List ℤ)
+    (raised : Bool) : Type 0 where
+  pub prices : AreRaised rows weights base (length rows) old new
+  pub nearer : IsTrue raised → gap new < gap old
+  pub same : ¬ IsTrue raised → new ≡ old
+  pub met : ¬ IsTrue raised → AreMet rows weights base (length rows) old
 
 -- the prices of rows are no greater than in any fair prices of 64 bits, and such that the prices
 -- of columns that go with them fit

@@ -98,7 +98,7 @@ fn narrow_diagonal<N: NumberList>(
     match integer_diagonal::heaviest(alloc, &pattern, &weights) {
         Ok(Heaviest::Diagonal { pairs, u, v, sum }) => {
             let (mut u, mut v) = (u, v);
-            if !narrow(&pattern, &weights, pairs.as_slice(), &mut u, &mut v) {
+            if !narrow(&weights, pairs.as_slice(), &mut u, &mut v) {
                 return Err(DiagonalRefusal::PriceLimit);
             }
             Ok(Diagonal {

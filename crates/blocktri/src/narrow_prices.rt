@@ -4,36 +4,27 @@ ghost use Rattle.std.specs.Prelude.{◌≡◌, ◌≤◌, ◌↔◌, ℕ, ℤ, I
 ghost use Rattle.bip_defs.specs.Bottleneck.{IsFull};
 ghost use Rattle.bip_defs.specs.Matrix.{IsEntry};
 ghost use Rattle.blocktri.specs.Diagonals.{AreNarrow};
+ghost use Rattle.blocktri.specs.RowPrices.{HasNoNarrow, IsDiagonal};
 ghost use Rattle.integer_diagonal.specs.Prices.{AreFair};
 ghost use Rattle.sp_pattern.specs.Weights.{weight_at, weight_limit};
 
 use crate::row_prices::{least_row_prices, write_column_prices};
 use sp_ids::{Col, Row};
-use sp_pattern::{Pattern, Weights};
+use sp_pattern::Weights;
 
 /// Gives a diagonal fair prices that fit 64 bits, where it has any: those that are there, where
 /// they fit, and else those in which each row's price is least.
-pub fn narrow(
-    pattern: &Pattern,
-    weights: &Weights,
-    pairs: &[(Row, Col)],
-    u: &mut Vec<i128>,
-    v: &mut Vec<i128>,
-) -> bool
-    requires of { weights.now.matrix ≡ pattern.now }
-    requires full { IsFull pattern.now pairs.now }
-    requires small { (r c : ℕ) → IsEntry pattern.now r c
-        → weight_at weights.now r c ≤ weight_limit }
+pub fn narrow(weights: &Weights, pairs: &[(Row, Col)], u: &mut Vec<i128>, v: &mut Vec<i128>) -> bool
+    requires diagonal { IsDiagonal weights.now pairs.now }
     requires fair { AreFair weights.now pairs.now u.old.items v.old.items }
     ensures fair { IsTrue result → AreFair weights.now pairs.now u.new.items v.new.items }
     ensures narrow { IsTrue result → AreNarrow u.new.items × AreNarrow v.new.items }
-    ensures none { ¬ IsTrue result → (x y : List ℤ) → AreFair weights.now pairs.now x y
-        → AreNarrow x → AreNarrow y → ⊥ }
+    ensures none { ¬ IsTrue result → HasNoNarrow weights.now pairs.now }
 {
     if are_narrow(u.as_slice()) && are_narrow(v.as_slice()) {
         return true;
     }
-    if !least_row_prices(pattern, weights, pairs, u) {
+    if !least_row_prices(weights, pairs, u) {
         return false;
     }
     write_column_prices(weights, pairs, u.as_slice(), v);

@@ -9,37 +9,27 @@ ghost use Rattle.std.specs.Prelude.{◌≡◌, ◌⊎◌, ◌<◌, ◌≤◌, �
 ghost use Rattle.std.specs.Int.RustNames.{unsigned_abs};
 ghost use Rattle.bip_defs.specs.Bottleneck.{IsFull};
 ghost use Rattle.bip_defs.specs.Matrix.{IsEntry};
-ghost use Rattle.blocktri.specs.Diagonals.{AreNarrow};
-ghost use Rattle.blocktri.specs.RowPrices.{AreAtMost, AreColumnPrices, AreEnough, AreLow, AreMet, AreRaised, asked, gap};
-ghost use Rattle.integer_diagonal.specs.Prices.{AreFair, price};
+ghost use Rattle.blocktri.specs.RowPrices.{AreAtMost, AreColumnPrices, AreEnough, AreLow, HasNoNarrow, HasRaised, IsDiagonal, asked, gap};
+ghost use Rattle.integer_diagonal.specs.Prices.{price};
 ghost use Rattle.sp_pattern.specs.Weights.{weight_at, weight_limit};
 
 use sp_ids::{Col, Row};
-use sp_pattern::{Pattern, Weights};
+use sp_pattern::{Neighbours, Weights};
 
 /// The least prices of rows with which fair prices of the diagonal fit 64 bits, if there are any.
 ///
 /// Work: looks at all entries, where there are fair prices at most as many times as there are rows.
-pub fn least_row_prices(
-    pattern: &Pattern,
-    weights: &Weights,
-    pairs: &[(Row, Col)],
-    u: &mut Vec<i128>,
-) -> bool
-    requires of { weights.now.matrix ≡ pattern.now }
-    requires full { IsFull pattern.now pairs.now }
-    requires small { (r c : ℕ) → IsEntry pattern.now r c
-        → weight_at weights.now r c ≤ weight_limit }
-    requires long { length u.old.items ≡ pattern.now.rows }
+pub fn least_row_prices(weights: &Weights, pairs: &[(Row, Col)], u: &mut Vec<i128>) -> bool
+    requires diagonal { IsDiagonal weights.now pairs.now }
+    requires long { length u.old.items ≡ weights.now.matrix.rows }
     ensures low { IsTrue result → AreLow weights.now pairs.now u.new.items }
     ensures enough { IsTrue result
         → AreEnough weights.now pairs.now (length pairs.now) u.new.items }
-    ensures none { ¬ IsTrue result → (x y : List ℤ) → AreFair weights.now pairs.now x y
-        → AreNarrow x → AreNarrow y → ⊥ }
+    ensures none { ¬ IsTrue result → HasNoNarrow weights.now pairs.now }
 {
     first_prices(weights, pairs, u);
     loop {
-        match raise_all(pattern, weights, pairs, u) {
+        match raise_all(weights, pairs, u) {
             None => return false,
             Some(raised) => {
                 if !raised {
@@ -52,9 +42,7 @@ pub fn least_row_prices(
 
 // The least prices of rows with which the columns' prices fit.
 fn first_prices(weights: &Weights, pairs: &[(Row, Col)], u: &mut Vec<i128>)
-    requires full { IsFull weights.now.matrix pairs.now }
-    requires small { (r c : ℕ) → IsEntry weights.now.matrix r c
-        → weight_at weights.now r c ≤ weight_limit }
+    requires diagonal { IsDiagonal weights.now pairs.now }
     requires long { length u.old.items ≡ weights.now.matrix.rows }
     ensures { AreLow weights.now pairs.now u.new.items }
 {
@@ -68,24 +56,14 @@ fn first_prices(weights: &Weights, pairs: &[(Row, Col)], u: &mut Vec<i128>)
 
 // Raises the prices of the rows as the entries ask, looking at each once. Whether some price was
 // raised; none, where one would have to pass the greatest of 64 bits.
-fn raise_all(
-    pattern: &Pattern,
-    weights: &Weights,
-    pairs: &[(Row, Col)],
-    u: &mut Vec<i128>,
-) -> Option<bool>
-    requires of { weights.now.matrix ≡ pattern.now }
-    requires full { IsFull pattern.now pairs.now }
-    requires small { (r c : ℕ) → IsEntry pattern.now r c
-        → weight_at weights.now r c ≤ weight_limit }
+fn raise_all(weights: &Weights, pairs: &[(Row, Col)], u: &mut Vec<i128>) -> Option<bool>
+    requires diagonal { IsDiagonal weights.now pairs.now }
     requires low { AreLow weights.now pairs.now u.old.items }
     ensures low { IfSome result (λ raised. AreLow weights.now pairs.now u.new.items) }
-    ensures nearer { IfSome result (λ raised.
-        IsTrue raised → gap u.new.items < gap u.old.items) }
+    ensures nearer { IfSome result (λ raised. IsTrue raised → gap u.new.items < gap u.old.items) }
     ensures enough { IfSome result (λ raised. ¬ IsTrue raised
         → AreEnough weights.now pairs.now (length pairs.now) u.new.items) }
-    ensures none { IfNone result ((x y : List ℤ) → AreFair weights.now pairs.now x y
-        → AreNarrow x → AreNarrow y → ⊥) }
+    ensures none { IfNone result (HasNoNarrow weights.now pairs.now) }
 {
     let mut raised = false;
     for k in 0..pairs.len() {
@@ -93,7 +71,7 @@ fn raise_all(
         let mate = pair.0;
         let col = pair.1;
         let base = base_of(weights, mate, col, u);
-        match raise_rows(pattern.rows_of(col), weights.weights_of(col), base, u) {
+        match raise_rows(weights.rows_of(col), weights.weights_of(col), base, u) {
             None => return None,
             Some(more) => raised = raised || more,
         }
@@ -121,13 +99,8 @@ fn raise_rows(rows: &[Row], weights: &[u64], base: i128, u: &mut Vec<i128>) -> O
     requires long { length weights.now ≡ length rows.now }
     requires base { unsigned_abs base ≤ 2 ^ 65 }
     requires within { AreAtMost u.old.items }
-    ensures raised { IfSome result (λ raised.
-        AreRaised rows.now weights.now base (length rows.now) u.old.items u.new.items) }
-    ensures nearer { IfSome result (λ raised.
-        IsTrue raised → gap u.new.items < gap u.old.items) }
-    ensures same { IfSome result (λ raised. ¬ IsTrue raised → u.new.items ≡ u.old.items) }
-    ensures met { IfSome result (λ raised. ¬ IsTrue raised
-        → AreMet rows.now weights.now base (length rows.now) u.old.items) }
+    ensures raised { IfSome result
+        (HasRaised rows.now weights.now base u.old.items u.new.items) }
     ensures past { IfNone result ((i : ℕ) × (i < length rows.now)
         × (pos weight_limit <ℤ asked weights.now base i)) }
 {

@@ -2,9 +2,8 @@
 
 ghost use Rattle.std.specs.Prelude.{◌≡◌, IfErr, IfOk, length};
 ghost use Rattle.blocktri.specs.DiagonalCauses.{IsDiagonalRefusal};
+ghost use Rattle.blocktri.specs.Diagonals.{AreColumnWeights};
 ghost use Rattle.sp_pattern.specs.Columns.{AreColumns, matrix_of};
-ghost use Rattle.sp_pattern.specs.ValuedColumns.{entries_given};
-ghost use Rattle.sp_pattern.specs.Weights.{AreWeightsOf};
 
 use crate::diagonal_refusals::{DiagonalRefusal, of_values};
 use crate::refusals::Refusal;
@@ -51,9 +50,8 @@ impl<N: NumberList> WeightedColumns<'_, N> {
         requires matrix { pattern.now
             ≡ matrix_of self.now.rows (N.numbers self.now.starts) (N.numbers self.now.ids) }
         requires values { length self.now.values.now ≡ length (N.numbers self.now.ids) }
-        ensures weights { IfOk result (AreWeightsOf (entries_given self.now.rows
-            (N.numbers self.now.starts) (N.numbers self.now.ids) self.now.values.now)
-            (matrix_of self.now.rows (N.numbers self.now.starts) (N.numbers self.now.ids))) }
+        ensures weights { IfOk result (AreColumnWeights self.now.rows
+            (N.numbers self.now.starts) (N.numbers self.now.ids) self.now.values.now) }
         ensures of { IfOk result (λ w. w.matrix ≡ pattern.now) }
         ensures refused { IfErr result (IsDiagonalRefusal (Unit {0}) (λ w. ⊥) self.now.rows
             (N.numbers self.now.starts) (N.numbers self.now.ids) self.now.values.now) }

@@ -1,6 +1,6 @@
-use Rattle.std.proofs.Common.{◌∙◌, ℕ, ◌≤◌, refl, subst, sym}
+use Rattle.std.proofs.Common.{◌∙◌, ℕ, ◌≤◌, refl, subst}
 use Rattle.bip_defs.specs.Bottleneck.{IsFull}
-use Rattle.bip_defs.specs.Matrix.{IsEntry, Matrix}
+use Rattle.bip_defs.specs.Matrix.{IsEntry}
 use Rattle.sp_pattern.specs.Weights.{weight_at, weight_limit}
 use Rattle.blocktri.specs.RowPrices.{AreColumnPrices}
 use Rattle.blocktri.proofs.PriceLemmas.{low_fair, low_narrow, low_narrow_columns}
@@ -10,7 +10,7 @@ pub returns-clause-fair : goal.returns-clause-fair
 returns-clause-fair c = λ h.
     let w = c.args.weights.now in
     let m = c.args.pairs.now in
-    let full : IsFull w.matrix m = subst (λ (a : Matrix). IsFull a m) (sym c.requires.of) c.requires.full in
+    let full : IsFull w.matrix m = c.requires.diagonal.full in
     let low = c.if-not-least_row_prices.ensures.low refl in
     let enough = c.if-not-least_row_prices.ensures.enough refl in
     let prices = subst (λ x. AreColumnPrices w m x c.write_column_prices.new.v.items) c.as_slice-2.ensures.value c.write_column_prices.ensures.prices in
@@ -20,8 +20,8 @@ pub returns-clause-narrow : goal.returns-clause-narrow
 returns-clause-narrow c = λ h.
     let w = c.args.weights.now in
     let m = c.args.pairs.now in
-    let full : IsFull w.matrix m = subst (λ (a : Matrix). IsFull a m) (sym c.requires.of) c.requires.full in
-    let small : (r d : ℕ) → IsEntry w.matrix r d → weight_at w r d ≤ weight_limit = subst (λ (a : Matrix). (r d : ℕ) → IsEntry a r d → weight_at w r d ≤ weight_limit) (sym c.requires.of) c.requires.small in
+    let full : IsFull w.matrix m = c.requires.diagonal.full in
+    let small : (r d : ℕ) → IsEntry w.matrix r d → weight_at w r d ≤ weight_limit = c.requires.diagonal.small in
     let low = c.if-not-least_row_prices.ensures.low refl in
     let prices = subst (λ x. AreColumnPrices w m x c.write_column_prices.new.v.items) c.as_slice-2.ensures.value c.write_column_prices.ensures.prices in
     (low_narrow w m c.least_row_prices.new.u.items full low, low_narrow_columns w m c.least_row_prices.new.u.items c.write_column_prices.new.v.items full small low (c.write_column_prices.ensures.long ∙ c.requires.fair.by_col) prices)

@@ -5,7 +5,7 @@ use Rattle.std.proofs.lemmas.Int.{ints, to_z-of_z}
 use Rattle.bip_defs.proofs.Slices.{items_same, read_at}
 use Rattle.integer_diagonal.specs.Prices.{price}
 use Rattle.sp_pattern.specs.Weights.{weight_limit}
-use Rattle.blocktri.specs.RowPrices.{asked}
+use Rattle.blocktri.specs.RowPrices.{AreRaised, asked}
 use Rattle.blocktri.proofs.PriceLemmas.{asked_is, gap_less_again, met_more, raised_more, raised_same}
 use Rattle.blocktri.proofs.row_prices.raise_rows.Goals.{then-index-least+else-least, else-index-least}
 use Rattle.blocktri.proofs.row_prices.raise_rows.Goals as goal
@@ -55,7 +55,19 @@ loop-i-preserved c =
           }
     ]
 
-pub returns-clause-met : goal.returns-clause-met
-returns-clause-met c rest i lt =
+pub returns-clause-raised : goal.returns-clause-raised
+returns-clause-raised c =
+    let rows = c.args.rows.now in
+    let weights = c.args.weights.now in
+    let old = c.args.u.now.items in
+    let u = c.loop-i.u.items in
     let end = c.loop-i-test.false in
-    subst (λ b. asked c.args.weights.now b i ≤ℤ price c.args.u.now.items (slice_index c.args.rows.now i)) (to_z-of_z w128 c.args.base c.ranges.base) (c.loop-i.invariant.met rest i (omega (arith, lt, end)))
+    let i = c.loop-i.invariant in
+    let same = to_z-of_z w128 c.args.base c.ranges.base in
+    let all : c.loop-i.i ≡ length rows = omega (arith, end, c.loop-i.auto.i-end) in
+    record {
+      prices = subst (λ b. AreRaised rows weights b (length rows) old u) same (subst (λ k. AreRaised rows weights (to_z w128 (of_z w128 c.args.base)) k old u) all i.prices);
+      nearer = i.nearer;
+      same = i.same;
+      met = λ rest k lt. subst (λ b. asked weights b k ≤ℤ price old (slice_index rows k)) same (i.met rest k (omega (arith, lt, end)));
+    }
