@@ -44,6 +44,9 @@ fn exit_code_of<R: Threads + AllocGlobal + Sync, S: Source, O: Sink, E: Sink>(
             let status = run(rt, rt.alloc(), words.as_slice(), input, out, err, &NoGate);
             ExitCode::from(status.code())
         }
-        Err(error) => ExitCode::from(refuse(err, &Refusal::from(want_of_words(&error))).code()),
+        Err(error) => {
+            let refusal = Refusal::from(want_of_words(&error));
+            ExitCode::from(refuse(err, &refusal).code())
+        }
     }
 }

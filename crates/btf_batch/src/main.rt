@@ -46,9 +46,9 @@ fn exit_code_of<R: Threads + AllocGlobal + Sync, S: Source, O: Sink, E: Sink>(
             let status = run_batch(rt, rt.alloc(), words.as_slice(), input, out, err, &NoGate);
             ExitCode::from(status.code())
         }
-        Err(error) => ExitCode::from(refuse(
-            err,
-            &BatchRefusal::from(want_of_words(&error)),
-        ).code()),
+        Err(error) => {
+            let refusal = BatchRefusal::from(want_of_words(&error));
+            ExitCode::from(refuse(err, &refusal).code())
+        }
     }
 }
