@@ -14,13 +14,13 @@ use Rattle.mm_frames.specs.declared.batch.BatchError.TheVariants as errors
 use Rattle.btf_words.specs.BatchWords.{AreTaken}
 use Rattle.btf_tool.specs.Jobs.{reading}
 use Rattle.btf_tool.specs.Refusals.{status_of_answer}
-use Rattle.btf_tool.specs.Runs.{IsOrNoMemory, Run}
+use Rattle.btf_tool.specs.Runs.{Fulfils, IsOrNoMemory, Run}
 use Rattle.btf_tool.specs.declared.answers.Answer.{Answer}
 use Rattle.btf_tool.specs.declared.answers.Answer.TheVariants.{Negative, Positive}
 use Rattle.batch_core.specs.BatchRefusals.{status_of}
 use Rattle.batch_core.specs.BatchRuns.{Completes, EndsWell, HasCause, IsAnswer, IsAnswerFor, IsBadFile, Says, WithAnswer, status_of_fault}
-use Rattle.batch_core.specs.declared.refusals.Refusal.{Refusal}
-use Rattle.batch_core.specs.declared.refusals.Refusal.TheVariants.{Limit, Malformed, OutOfMemory, ReadFault, TooLong, Usage, WriteFault}
+use Rattle.batch_core.specs.declared.refusals.BatchRefusal.{BatchRefusal}
+use Rattle.batch_core.specs.declared.refusals.BatchRefusal.TheVariants.{Limit, Malformed, OutOfMemory, ReadFault, TooLong, Usage, WriteFault}
 use Rattle.batch_core.proofs.BatchReadings.{where_known}
 
 -- what the laws on batches say
@@ -123,7 +123,7 @@ module _ (laws : Laws) where
   too_long_or_memory e = cc
 
   -- each refusal
-  refused : (r : Run) (status : Status) (refusal : Refusal) → status ≡ status_of refusal → HasCause r refusal → Completes r status
+  refused : (r : Run) (status : Status) (refusal : BatchRefusal) → status ≡ status_of refusal → HasCause r refusal → Completes r status
   refused r status Usage said c = record {
     usage = λ _. inl said;
     bad_file = λ taken. absurd (c.0 taken);
@@ -161,7 +161,7 @@ module _ (laws : Laws) where
     too_long = λ _ no_read. where_known r.input.before r.input.after c.1 (λ x y before h past none. inr said);
   }
 
-  pub completes : (r : Run) (status : Status) → Says r status → Completes r status
+  completes : (r : Run) (status : Status) → Says r status → Completes r status
   completes r statuses.Ok s = answered r statuses.Ok _ Positive s.taken s.written (λ _. inl refl)
   completes r statuses.Negative s = answered r statuses.Negative _ Negative s.taken s.written (λ _. inl refl)
   completes r statuses.Usage s = refused r statuses.Usage s.refusal s.status_is s.cause
@@ -171,3 +171,6 @@ module _ (laws : Laws) where
   completes r statuses.WriteFault s = refused r statuses.WriteFault s.refusal s.status_is s.cause
   completes r statuses.OutOfMemory s = refused r statuses.OutOfMemory s.refusal s.status_is s.cause
   completes r statuses.NeedsInteger s = refused r statuses.NeedsInteger s.refusal s.status_is s.cause
+
+  pub fulfils : (r : Run) (status : Status) → Says r status → Fulfils Says Completes r status
+  fulfils r status s = record { says = s; complete = completes r status s }

@@ -11,7 +11,7 @@ use Rattle.mm_frames.specs.declared.batch.BatchError.TheVariants as errors
 use Rattle.btf_tool.specs.Jobs.{reading}
 use Rattle.batch_core.specs.BatchRefusals.{refusal_for}
 use Rattle.batch_core.specs.BatchRuns.{IsUnread}
-use Rattle.batch_core.specs.declared.refusals.Refusal.{Refusal}
+use Rattle.batch_core.specs.declared.refusals.BatchRefusal.{BatchRefusal}
 
 -- what follows of what holds where bytes are told
 pub where_known : {P Q : List ℕ → List ℕ → Type 0} (before after : Option (List ℕ)) → WhereKnown before after P
@@ -21,10 +21,10 @@ where_known (Some x) None h f = absurd h
 where_known (Some x) (Some y) h f = f x y refl h
 
 -- what holds of this refusal holds of a result that is it
-pub as_refusal : {T : Type 0} (result : Result T Refusal) (refusal : Refusal) (Q : Result T Refusal → Type 0)
+pub as_refusal : {T : Type 0} (result : Result T BatchRefusal) (refusal : BatchRefusal) (Q : Result T BatchRefusal → Type 0)
     → IsErrAnd result (λ e. e ≡ refusal) → Q (Err refusal) → Q result
 as_refusal (Ok v) refusal Q is q = absurd is
-as_refusal (Err e) refusal Q is q = subst (λ (r : Refusal). Q (Err r)) (sym is) q
+as_refusal (Err e) refusal Q is q = subst (λ (r : BatchRefusal). Q (Err r)) (sym is) q
 
 refused : (input : Device) (e : BatchError) → WhereKnown input.before input.after (λ x y. RefusesBatch (reading input x y) e)
     → (e ≡ errors.ReadFault → HasReadFault input) → IsUnread input (refusal_for e)

@@ -11,12 +11,12 @@ use Rattle.btf_words.specs.BatchWords.{AreTaken}
 use Rattle.btf_tool.specs.declared.answers.Answer.{Answer}
 use Rattle.btf_tool.specs.declared.answers.Answer.TheVariants.{Negative, Positive}
 use Rattle.btf_tool.specs.Jobs.{OfReading}
-use Rattle.btf_tool.specs.Runs.{IsOrNoMemory, Run, StaysKnown}
+use Rattle.btf_tool.specs.Runs.{IsOrNoMemory, Run, SaysOf, StaysKnown}
 use Rattle.batch_core.specs.BatchRefusals.{line_of, status_of}
 use Rattle.batch_core.specs.BatchText.{AreGood, IsBatchText}
 use Rattle.batch_core.specs.Shares.{IsWithinLimits}
-use Rattle.batch_core.specs.declared.refusals.Refusal.{Refusal}
-use Rattle.batch_core.specs.declared.refusals.Refusal.TheVariants.{Limit, Malformed, OutOfMemory, ReadFault, TooLong, Usage, WriteFault}
+use Rattle.batch_core.specs.declared.refusals.BatchRefusal.{BatchRefusal}
+use Rattle.batch_core.specs.declared.refusals.BatchRefusal.TheVariants.{Limit, Malformed, OutOfMemory, ReadFault, TooLong, Usage, WriteFault}
 
 -- ---- the answer
 
@@ -69,7 +69,7 @@ IsTooLong input = OfReading input
     (λ call. (first_bad_file call ≡ None) × (call.room < length (got call)))
 
 -- Why the files could not be read.
-abbrev pub IsUnread : Device → Refusal → Type 0
+abbrev pub IsUnread : Device → BatchRefusal → Type 0
 -- the first bad frame is not of a batch's form
 IsUnread input (Malformed file kind) =
     IsBadFile false input (record { file = file; kind = kind })
@@ -86,7 +86,7 @@ IsUnread input WriteFault = ⊥
 IsUnread input Usage = ⊥
 
 -- What a refusal says of the input and of the output, where the words are taken.
-abbrev pub IsCause : Device → Device → Refusal → Type 0
+abbrev pub IsCause : Device → Device → BatchRefusal → Type 0
 -- a write failed, and a prefix of the answer was taken
 IsCause input out WriteFault = HasWriteFault out × IsSteady input
     × ((answer : Answer) × WithAnswer answer input (TookPrefix out))
@@ -94,14 +94,14 @@ IsCause input out WriteFault = HasWriteFault out × IsSteady input
 IsCause input out refusal = IsUnread input refusal × IsUntouched out
 
 -- What the outcome over words that are taken says of the input and of the output.
-abbrev pub BatchSays : Device → Device → Result Answer Refusal → Type 0
+abbrev pub BatchSays : Device → Device → Result Answer BatchRefusal → Type 0
 BatchSays input out (Ok answer) = IsSteady input × IsSteady out
     × WithAnswer answer input (Took out)
 BatchSays input out (Err refusal) = CountHasNotFallen input × CountHasNotFallen out
     × IsCause input out refusal
 
 -- What a refusal says of a run.
-abbrev pub HasCause : Run → Refusal → Type 0
+abbrev pub HasCause : Run → BatchRefusal → Type 0
 -- the words are not taken, and nothing was read or written
 HasCause r Usage = (¬ AreTaken r.words) × IsUntouched r.input × IsUntouched r.out
 HasCause r OutOfMemory = CountHasNotFallen r.input × StaysKnown r.input × IsUntouched r.out
@@ -109,16 +109,14 @@ HasCause r refusal = AreTaken r.words × CountHasNotFallen r.input × IsCause r.
 
 -- The run was refused: the status is the refusal's, its line was written, and it has its cause.
 pub record IsRefused (r : Run) (status : Status) : Type 0 where
-  pub refusal : Refusal
+  pub refusal : BatchRefusal
   pub status_is : status ≡ status_of refusal
   pub line : WroteAsFar r.err (line_of refusal)
   pub cause : HasCause r refusal
 
 -- what each status says
 abbrev pub Says : Run → Status → Type 0
-Says r statuses.Ok = IsAnswered r Positive
-Says r statuses.Negative = IsAnswered r Negative
-Says r status = IsRefused r status
+Says r = SaysOf (IsAnswered r) (IsRefused r)
 
 -- ---- which status has to come
 

@@ -42,7 +42,7 @@ pub enum Put {
 
 impl<'a> Answers<'a> {
     /// No answers yet. There are at most 65,536 files, and each has at most 1,073,741,824 bytes.
-    /// Answers `OutOfMemory` where there is none for a slot for each file.
+    /// Returns `OutOfMemory` if it cannot allocate a slot for each file.
     pub fn new(alloc: Global, files: &'a [Vec<u8>]) -> Result<Answers<'a>, OutOfMemory>
         requires { IsWithinLimits (files_of files.now) }
         ensures { IfOk result (λ a. a ≡ record {
@@ -89,7 +89,7 @@ impl<'a> Answers<'a> {
         Put::Stored
     }
 
-    /// Answers the file of each empty slot. Answers `OutOfMemory` where there is none for one of
+    /// Answers the file of each empty slot. Returns `OutOfMemory` if it cannot allocate one of
     /// them; full slots stay as they are.
     pub fn fill_rest<R: Threads + Sync>(&mut self, rt: &R) -> Result<(), OutOfMemory>
         ensures files { self.new.files ≡ self.old.files }

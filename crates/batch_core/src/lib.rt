@@ -15,7 +15,7 @@ mod workers;
 
 pub use answers::{Answers, Put};
 pub use laws::one_batch_text;
-pub use refusals::{Refusal, refuse};
+pub use refusals::{BatchRefusal, refuse};
 pub use run::run_batch;
 pub use share::Share;
 pub use workers::answer_all;

@@ -7,7 +7,7 @@ ghost use Rattle.btf_tool.specs.Jobs.{GavePrefix, OfReading};
 ghost use Rattle.batch_core.specs.BatchRuns.{IsUnread, WasRead};
 ghost use Rattle.batch_core.specs.Shares.{IsWithinLimits};
 
-use crate::Refusal;
+use crate::BatchRefusal;
 use mm_frames::read_files;
 use mm_reader::Input;
 use sp_ids::MAX_INPUT_BYTES;
@@ -15,7 +15,10 @@ use sp_ports::Source;
 use std::alloc::Global;
 
 /// Reads the files of the batch that the input is.
-pub(crate) fn read_batch<S: Source>(alloc: Global, input: &mut S) -> Result<Vec<Vec<u8>>, Refusal>
+pub(crate) fn read_batch<S: Source>(
+    alloc: Global,
+    input: &mut S,
+) -> Result<Vec<Vec<u8>>, BatchRefusal>
     ensures read { IfOk result (λ files. OfReading (seen S.left S.faults input.old input.new)
         (λ call. WasRead call (files_of files.items))) }
     ensures steady { IfOk result (λ _. IsSteady (seen S.left S.faults input.old input.new)) }

@@ -1,18 +1,18 @@
 //! The top call.
 
 ghost use Rattle.std.specs.Prelude.{map, string_bytes};
-ghost use Rattle.btf_words.specs.BatchWords.{IsWithinLimits};
 ghost use Rattle.sp_ports.specs.Device.{CountHasNotFallen, seen};
 ghost use Rattle.btf_tool.specs.Jobs.{GavePrefix, OfReading};
+ghost use Rattle.btf_tool.specs.Runs.{Fulfils, run_of};
 ghost use Rattle.batch_core.specs.BatchRuns.{BatchSays, Completes, Says};
 
 use crate::answer_all;
 use crate::reading::read_batch;
-use crate::refusals::{Refusal, refuse};
+use crate::refusals::{BatchRefusal, refuse};
 use crate::texts::{answer_of, write_answers};
 use btf_text::TextBuf;
 use btf_tool::{Answer, unused_input_tells};
-use btf_words::{WordsError, read_batch_words};
+use btf_words::{Workers, read_batch_words};
 use mm_frames::{
     bad_frame_stays, batch_has_no_bad_frame, batch_has_one_list_of_files, good_batch_is_read,
 };
@@ -41,21 +41,10 @@ pub fn run_batch<R: Threads + Sync, S: Source, O: Sink, E: Sink, G: Gate>(
     err: &mut E,
     gate: &G,
 ) -> Status
-    // What each status says.
-    ensures says { Says (record {
-      words = map string_bytes words.now;
-      input = seen S.left S.faults input.old input.new;
-      out = seen O.taken O.faults out.old out.new;
-      err = seen E.taken E.faults err.old err.new;
-    }) result }
-
-    // Which status has to come.
-    ensures complete { Completes (record {
-      words = map string_bytes words.now;
-      input = seen S.left S.faults input.old input.new;
-      out = seen O.taken O.faults out.old out.new;
-      err = seen E.taken E.faults err.old err.new;
-    }) result }
+    // What each status says, and which status has to come.
+    ensures status { Fulfils Says Completes (run_of (map string_bytes words.now)
+        (seen S.left S.faults input.old input.new) (seen O.taken O.faults out.old out.new)
+        (seen E.taken E.faults err.old err.new)) result }
 
     // No device's count of failures falls.
     ensures input_count { CountHasNotFallen (seen S.left S.faults input.old input.new) }
@@ -75,8 +64,7 @@ pub fn run_batch<R: Threads + Sync, S: Source, O: Sink, E: Sink, G: Gate>(
     // What was not read is told as before.
     unused_input_tells();
     match read_batch_words(alloc, words) {
-        Err(WordsError::Usage) => refuse(err, &Refusal::Usage),
-        Err(WordsError::OutOfMemory) => refuse(err, &Refusal::OutOfMemory),
+        Err(error) => refuse(err, &BatchRefusal::from(error)),
         Ok(workers) => match perform(rt, alloc, workers, input, out, gate) {
             Ok(answer) => answer.status(),
             Err(refusal) => refuse(err, &refusal),
@@ -84,16 +72,15 @@ pub fn run_batch<R: Threads + Sync, S: Source, O: Sink, E: Sink, G: Gate>(
     }
 }
 
-/// Answers the batch by so many workers, and tells whether each file is good.
+/// Answers the batch by so many workers, and returns whether each file is good.
 fn perform<R: Threads + Sync, S: Source, O: Sink, G: Gate>(
     rt: &R,
     alloc: Global,
-    workers: u32,
+    workers: Workers,
     input: &mut S,
     out: &mut O,
     gate: &G,
-) -> Result<Answer, Refusal>
-    requires limits { IsWithinLimits workers }
+) -> Result<Answer, BatchRefusal>
     ensures says { BatchSays (seen S.left S.faults input.old input.new)
         (seen O.taken O.faults out.old out.new) result }
     ensures gave { OfReading (seen S.left S.faults input.old input.new) GavePrefix }

@@ -57,7 +57,7 @@ impl<'a> Share<'a> {
     /// `gate.arrive` once, before that.
     ///
     /// The seat must be one of the board, which has a row for each file and more columns than the
-    /// worker's number. Answers `OutOfMemory` where a file that it has claimed cannot be answered:
+    /// worker's number. Returns `OutOfMemory` if a file that it has claimed cannot be answered:
     /// the answers that it has found stay, and that file has none.
     pub fn work<R: Threads + Sync, G: Gate>(
         &mut self,

@@ -9,6 +9,7 @@ ghost use Rattle.batch_core.specs.Shares.{AreAnswers, AreFull, IsAtBoard, IsWith
 
 use crate::{Answers, Share};
 use btf_tool::FileAnswer;
+use btf_words::Workers;
 use claim_words::{ClaimBoard, ClaimSeat, new_seats_are_all};
 use sp_ids::OutOfMemory;
 use sp_ports::Gate;
@@ -16,7 +17,7 @@ use std::alloc::Global;
 use std::thread;
 use std::thread::Threads;
 
-/// The answers to all files, by so many workers at once, 1 to 64, as far as threads can be had.
+/// The answers to all files, by so many workers at once, as far as threads can be had.
 /// Each calls `gate.arrive` once.
 ///
 /// What a worker could not answer for want of memory is answered at the end by the caller. Answers
@@ -27,12 +28,10 @@ pub fn answer_all<'a, R: Threads + Sync, G: Gate>(
     rt: &R,
     alloc: Global,
     files: &'a [Vec<u8>],
-    workers: u32,
+    workers: Workers,
     gate: &G,
 ) -> Result<Answers<'a>, OutOfMemory>
-    requires files { IsWithinLimits (files_of files.now) }
-    requires some { 1 ≤ workers }
-    requires few { workers ≤ max_workers }
+    requires { IsWithinLimits (files_of files.now) }
     ensures files { IfOk result (λ a. a.files ≡ files_of files.now) }
     ensures full { IfOk result AreFull }
 {
@@ -61,15 +60,14 @@ fn answered<'a, R: Threads + Sync, G: Gate>(
     rt: &R,
     alloc: Global,
     files: &'a [Vec<u8>],
-    workers: u32,
+    workers: Workers,
     gate: &G,
 ) -> Result<Vec<Share<'a>>, OutOfMemory>
-    requires files { IsWithinLimits (files_of files.now) }
-    requires some { 1 ≤ workers }
-    requires few { workers ≤ max_workers }
+    requires { IsWithinLimits (files_of files.now) }
     ensures { IfOk result (λ shares. All (λ share. share.files ≡ files_of files.now) shares.items) }
 {
     new_seats_are_all();
+    let workers = workers.number();
     let rows = vec![in alloc; None; files.len()]?;
     let columns = vec![in alloc; None; workers as usize]?;
     let (board, seats) = ClaimBoard::new(alloc, rows.as_slice(), columns.as_slice(), workers)?;

@@ -1,13 +1,15 @@
 //! `btf_batch`: the structural analysis of many sparse matrices, by many workers at once.
 #![tactic(auto)]
 
-ghost use Rattle.std.specs.Prelude.{◌≡◌, map, string_bytes, IfErr, IfOk};
+ghost use Rattle.std.specs.Prelude.{map, string_bytes, IfErr, IfOk};
 ghost use Rattle.std.specs.IoError.{error_kind};
 ghost use Rattle.std.specs.Process.{exit_status};
-ghost use Rattle.btf_batch.specs.Ends.{EndsWith, EndsWithoutWords, want_of_words};
+ghost use Rattle.btf_batch.specs.Ends.{EndsWith, EndsWithoutWords};
+ghost use Rattle.btf_tool.specs.Runs.{run_of};
 ghost use Rattle.sp_ports.specs.Device.{seen};
 
-use batch_core::{Refusal, refuse, run_batch};
+use batch_core::{BatchRefusal, refuse, run_batch};
+use btf_tool::want_of_words;
 use process_ports::{StderrSink, StdinSource, StdoutSink, words};
 use sp_ports::{NoGate, Sink, Source};
 use std::io;
@@ -21,8 +23,8 @@ fn main(rt: HostRuntime) -> ExitCode {
     exit_code_of(&rt, words(&rt), &mut input, &mut out, &mut err)
 }
 
-/// Answers the batch as the words say, or tells why there are none, and gives the number with which
-/// the process ends.
+/// Runs `btf_batch` on these words, or reports why there are none, and returns the process's exit
+/// code.
 fn exit_code_of<R: Threads + AllocGlobal + Sync, S: Source, O: Sink, E: Sink>(
     rt: &R,
     words: io::Result<Vec<String>>,
@@ -30,12 +32,9 @@ fn exit_code_of<R: Threads + AllocGlobal + Sync, S: Source, O: Sink, E: Sink>(
     out: &mut O,
     err: &mut E,
 ) -> ExitCode
-    ensures ends { IfOk words (λ words. EndsWith (record {
-      words = map string_bytes words.items;
-      input = seen S.left S.faults input.old input.new;
-      out = seen O.taken O.faults out.old out.new;
-      err = seen E.taken E.faults err.old err.new;
-    }) (exit_status result)) }
+    ensures ends { IfOk words (λ words. EndsWith (run_of (map string_bytes words.items)
+        (seen S.left S.faults input.old input.new) (seen O.taken O.faults out.old out.new)
+        (seen E.taken E.faults err.old err.new)) (exit_status result)) }
     ensures without_words { IfErr words (λ error. EndsWithoutWords (error_kind error)
         (seen S.left S.faults input.old input.new)
         (seen O.taken O.faults out.old out.new)
@@ -47,67 +46,9 @@ fn exit_code_of<R: Threads + AllocGlobal + Sync, S: Source, O: Sink, E: Sink>(
             let status = run_batch(rt, rt.alloc(), words.as_slice(), input, out, err, &NoGate);
             ExitCode::from(status.code())
         }
-        Err(error) => ExitCode::from(refuse(err, &want_of_words(&error)).code()),
-    }
-}
-
-/// Why there are no words: memory ran out, or one of them is not UTF-8, which the program does not
-/// take.
-fn want_of_words(error: &io::Error) -> Refusal
-    ensures { result ≡ want_of_words (error_kind error.now) }
-{
-    match error.kind() {
-        io::ErrorKind::OutOfMemory => Refusal::OutOfMemory,
-        _ => Refusal::Usage,
-    }
-}
-
-#[cfg(test)]
-mod tests {
-    use super::want_of_words;
-    use batch_core::Refusal;
-    use process_ports::{StderrSink, StdinSource, StdoutSink};
-    use sp_ports::{Sink, Source};
-    use std::io::{Error, ErrorKind};
-    use std::test::Fail;
-
-    #[test]
-    fn want_of_memory_is_told_apart(rt: HostRuntime) {
-        assert_eq!(rt;
-            want_of_words(&Error::from(ErrorKind::OutOfMemory)),
-            Refusal::OutOfMemory
-        );
-        assert_eq!(rt;
-            want_of_words(&Error::from(ErrorKind::InvalidData)),
-            Refusal::Usage
-        );
-    }
-
-    #[test]
-    fn standard_input_is_read_to_its_end(rt: HostRuntime) -> Result<(), Fail> {
-        let mut source = StdinSource::new(rt.stdin());
-        let mut buffer = [0u8; 16];
-        for _ in 0..1000 {
-            if source.read(&mut buffer) == Ok(0) {
-                return Ok(());
-            }
+        Err(error) => {
+            let refusal = BatchRefusal::from(want_of_words(&error));
+            ExitCode::from(refuse(err, &refusal).code())
         }
-        panic!(rt; "there is no end")
-    }
-
-    #[test]
-    fn standard_output_takes_bytes(rt: HostRuntime) -> Result<(), Fail> {
-        let mut sink = StdoutSink::new(rt.stdout());
-        assert_eq!(rt; sink.write(b"."), Ok(1));
-        assert_eq!(rt; sink.flush(), Ok(()));
-        Ok(())
-    }
-
-    #[test]
-    fn standard_error_takes_bytes(rt: HostRuntime) -> Result<(), Fail> {
-        let mut sink = StderrSink::new(rt.stderr());
-        assert_eq!(rt; sink.write(b"."), Ok(1));
-        assert_eq!(rt; sink.flush(), Ok(()));
-        Ok(())
     }
 }

@@ -7,6 +7,7 @@ use Rattle.sp_ids.specs.declared.outcomes.Status.TheVariants as statuses
 use Rattle.sp_ports.specs.Bytes.{WhereKnown}
 use Rattle.btf_words.specs.Words.{AreTaken, job_of}
 use Rattle.btf_words.specs.declared.jobs.WordsError.{WordsError}
+use Rattle.btf_words.specs.declared.jobs.WordsError.TheVariants as wants
 use Rattle.btf_words.specs.declared.jobs.Job.{Job}
 use Rattle.btf_words.specs.declared.jobs.Job.TheVariants.{Rank, Analyse, Diagonal, Check, Load, Edit, Bottleneck}
 use Rattle.mm_defs.specs.Faults.{is_limit}
@@ -30,8 +31,8 @@ use Rattle.btf_tool.specs.Jobs.{GavePrefix, IsFitFor, IsMatrixOf, IsTextOf, Need
 use Rattle.btf_tool.specs.Inputs.{Form, IsGoodInput, first_bad_in}
 use Rattle.btf_tool.specs.Inputs as forms
 use Rattle.btf_tool.specs.VerdictText.{answer_of}
-use Rattle.btf_tool.specs.Refusals.{line_of, status_of, status_of_answer}
-use Rattle.btf_tool.specs.Runs.{ComesToDiagonal, Completes, EndsWell, HasCause, IsBadLine, IsGoodSoFar, IsOrNoMemory, IsPast, IsTooLong, JobSays, NameMaker, Names, NamesReader, Run, Says, StaysKnown, WithFile, status_of_fault}
+use Rattle.btf_tool.specs.Refusals.{line_of, refusal_without_words, status_of, status_of_answer}
+use Rattle.btf_tool.specs.Runs.{ComesToDiagonal, Completes, EndsWell, Fulfils, HasCause, IsBadLine, IsGoodSoFar, IsOrNoMemory, IsPast, IsTooLong, JobSays, NameMaker, Names, NamesReader, Run, Says, StaysKnown, WithFile, status_of_fault}
 use Rattle.btf_tool.proofs.Bottlenecks.{comes_to_bottleneck}
 use Rattle.btf_tool.proofs.Diagonals.{comes_to_diagonal, no_sum_past}
 use Rattle.btf_tool.proofs.FullMatchings.{FullHasRank, no_diagonal_memory, past_ends}
@@ -388,7 +389,7 @@ refused one_verdict full_rank r status OutOfMemory said c = record {
   made = λ maker no_write. inr said;
 }
 
-pub completes : HasOneVerdict → FullHasRank → (r : Run) (status : Status) → Says r status → Completes r status
+completes : HasOneVerdict → FullHasRank → (r : Run) (status : Status) → Says r status → Completes r status
 completes one_verdict full_rank r statuses.Ok s = answered one_verdict full_rank r statuses.Ok _ Positive s.job s.names s.written (λ _. inl refl)
 completes one_verdict full_rank r statuses.Negative s = answered one_verdict full_rank r statuses.Negative _ Negative s.job s.names s.written (λ _. inl refl)
 completes one_verdict full_rank r statuses.Usage s = refused one_verdict full_rank r statuses.Usage s.refusal s.status_is s.cause
@@ -398,6 +399,9 @@ completes one_verdict full_rank r statuses.ReadFault s = refused one_verdict ful
 completes one_verdict full_rank r statuses.WriteFault s = refused one_verdict full_rank r statuses.WriteFault s.refusal s.status_is s.cause
 completes one_verdict full_rank r statuses.OutOfMemory s = refused one_verdict full_rank r statuses.OutOfMemory s.refusal s.status_is s.cause
 completes one_verdict full_rank r statuses.NeedsInteger s = refused one_verdict full_rank r statuses.NeedsInteger s.refusal s.status_is s.cause
+
+pub fulfils : HasOneVerdict → FullHasRank → (r : Run) (status : Status) → Says r status → Fulfils Says Completes r status
+fulfils one_verdict full_rank r status s = record { says = s; complete = completes one_verdict full_rank r status s }
 
 by_refusal : (r : Run) (refusal : Refusal) → WroteAsFar r.err (line_of refusal) → HasCause r refusal → Says r (status_of refusal)
 by_refusal r Usage wrote cause = record { refusal = Usage; status_is = refl; line = wrote; cause = cause }
@@ -460,6 +464,16 @@ line_counts d text (inl took) = steady_counts d took.steady
 line_counts d text (inr took) = took.counts
 
 -- ---- what `run` cites
+
+-- words that name no job were refused, and nothing was read or written
+pub words_refused : (r : Run) (error : WordsError) (refusal : Refusal) (status : Status) → refusal ≡ refusal_without_words error → (error ≡ wants.Usage → ¬ AreTaken r.words)
+    → IsUntouched r.input → IsUntouched r.out → status ≡ status_of refusal → WroteAsFar r.err (line_of refusal) → Says r status
+words_refused r error refusal status is usage unread unwritten said line =
+    refusal_says r status refusal said line (subst (λ (x : Refusal). HasCause r x) (sym is) (cause error usage))
+  where
+    cause : (e : WordsError) → (e ≡ wants.Usage → ¬ AreTaken r.words) → HasCause r (refusal_without_words e)
+    cause wants.Usage not_taken = (not_taken refl, unread, unwritten)
+    cause wants.OutOfMemory not_taken = (untouched_counts r.input unread, untouched_tells r.input unread, unwritten)
 
 -- the job that was read from the words
 pub named : (words : List (List ℕ)) (result : Result Job WordsError) (job : Job) → result ≡ Ok job

@@ -5,6 +5,7 @@ use Rattle.sp_ids.specs.declared.triples.Field.TheVariants.{Integer}
 use Rattle.sp_ids.specs.Limits.{max_input_bytes}
 use Rattle.bip_defs.specs.Matrix.{Matrix, HasPlaces, Place}
 use Rattle.bip_graph.specs.Answers.{IsAnalysis, IsRankText}
+use Rattle.btf_words.specs.Choices.{are_least, are_listed, number_of}
 use Rattle.btf_words.specs.declared.jobs.Job.{Job}
 use Rattle.btf_words.specs.declared.jobs.Job.TheVariants.{Rank, Analyse, Diagonal, Check, Load, Edit, Bottleneck}
 use Rattle.mm_defs.specs.Calls.{Call, call_on, offered}
@@ -152,7 +153,8 @@ IsMatrixOf drop_zeros t a = HasPlaces t.rows t.cols (entry_places drop_zeros t) 
 abbrev pub IsTextOf : Job → Entries → Matrix → List ℕ → Answer → List ℕ → Type 0
 IsTextOf (Rank drop_zeros) t a rest answer text = (answer ≡ Positive) × IsRankText a text
 IsTextOf (Analyse choice report drop_zeros) t a rest answer text = (answer ≡ Positive)
-    × IsAnalysis a report.version report.order report.pairs report.least text
+    × IsAnalysis a (number_of report.version) report.order (are_listed report.pairs)
+    (are_least report.pairs) text
 IsTextOf (Diagonal drop_zeros) t a rest answer text = IsDiagonalText t a answer text
 IsTextOf (Check drop_zeros) t a rest answer text = IsVerdictText a rest answer text
 IsTextOf (Load size seed choice) t a rest answer text = (answer ≡ Positive) × IsSummary a text

@@ -1,5 +1,6 @@
 pub mod Bottlenecks
 pub mod Diagonals
+pub mod Ends
 pub mod FileAnswer
 pub mod Inputs
 pub mod Jobs

@@ -34,6 +34,14 @@ pub record Run : Type 0 where
   pub out : Device
   pub err : Device
 
+abbrev pub run_of : List (List ℕ) → Device → Device → Device → Run
+run_of words input out err = record { words = words; input = input; out = out; err = err }
+
+-- what a status says of the run holds, and the status is one that has to come
+pub record Fulfils (Says Completes : Run → Status → Type 0) (r : Run) (status : Status) : Type 0 where
+  pub says : Says r status
+  pub complete : Completes r status
+
 -- the words are taken, and name this job
 pub record Names (words : List (List ℕ)) (job : Job) : Type 0 where
   pub taken : AreTaken words
@@ -163,11 +171,15 @@ pub record IsRefused (r : Run) (status : Status) : Type 0 where
   pub line : WroteAsFar r.err (line_of refusal)
   pub cause : HasCause r refusal
 
+-- what a status says of a run that was answered so, or else refused with this status
+abbrev pub SaysOf : (Answer → Type 0) → (Status → Type 0) → Status → Type 0
+SaysOf answered refused statuses.Ok = answered Positive
+SaysOf answered refused statuses.Negative = answered Negative
+SaysOf answered refused status = refused status
+
 -- what each status says
 abbrev pub Says : Run → Status → Type 0
-Says r statuses.Ok = IsAnswered r Positive
-Says r statuses.Negative = IsAnswered r Negative
-Says r status = IsRefused r status
+Says r = SaysOf (IsAnswered r) (IsRefused r)
 
 -- ---- which status has to come
 

@@ -1,10 +1,10 @@
 //! The job `analyse`.
 
-ghost use Rattle.std.specs.Prelude.{◌≡◌, ◌||◌, IfOk};
+ghost use Rattle.std.specs.Prelude.{IfOk};
 ghost use Rattle.bip_graph.specs.Answers.{AreOfVersion, IsMaximumOrLeast};
 ghost use Rattle.bip_graph.specs.Decompositions.{Decomposes, HasParts};
 ghost use Rattle.btf_text.specs.Reports.{components_in};
-ghost use Rattle.btf_words.specs.Words.{HasWorkers, IsVersion};
+ghost use Rattle.btf_words.specs.Choices.{are_least, number_of};
 ghost use Rattle.btf_words.specs.declared.jobs.Job.TheVariants.{Analyse};
 ghost use Rattle.sp_ports.specs.Device.{seen};
 ghost use Rattle.btf_tool.specs.Jobs.{GavePrefix, OfReading};
@@ -18,7 +18,7 @@ use crate::writing::hand_on;
 use crate::{Answer, Refusal};
 use bip_graph::{Components, Decomposition, Matching, Parts};
 use btf_text::{TextBuf, write_report};
-use btf_words::{EngineChoice, ReportOptions};
+use btf_words::{EngineChoice, ReportOptions, Version};
 use dm_coarse::components;
 use sp_ids::OutOfMemory;
 use sp_pattern::Pattern;
@@ -26,7 +26,7 @@ use sp_ports::{Gate, Sink, Source};
 use std::alloc::Global;
 use std::thread::Threads;
 
-/// What an analysis is asked for: who searches, what its report has, and whether zeros are dropped.
+/// What an analysis is asked for: which engine searches, what its report has, and whether zeros are dropped.
 #[derive(Clone, Copy)]
 pub(crate) struct Options {
     pub(crate) choice: EngineChoice,
@@ -42,8 +42,7 @@ struct Analysis {
     components: Option<Components>,
 }
 
-/// Reads a matrix and writes the report of its decomposition. With `least` it has the pairs of the
-/// least maximum matching.
+/// Reads a matrix and writes the report of its decomposition.
 pub(crate) fn analyse<R: Threads + Sync, S: Source, O: Sink, G: Gate>(
     rt: &R,
     alloc: Global,
@@ -52,8 +51,6 @@ pub(crate) fn analyse<R: Threads + Sync, S: Source, O: Sink, G: Gate>(
     out: &mut O,
     gate: &G,
 ) -> Result<Answer, Refusal>
-    requires workers { HasWorkers options.choice }
-    requires version { IsVersion options.report.version }
     ensures says { JobSays (Analyse options.choice options.report options.drop_zeros)
         (seen S.left S.faults input.old input.new) (seen O.taken O.faults out.old out.new) result }
     ensures gave { OfReading (seen S.left S.faults input.old input.new) GavePrefix }
@@ -64,7 +61,6 @@ pub(crate) fn analyse<R: Threads + Sync, S: Source, O: Sink, G: Gate>(
     let report = options.report;
     let analysis = analysis_of(rt, alloc, &pattern, options, gate)?;
     analysis.matching.is_matching();
-    let listed = lists_pairs(report);
     let mut buf = TextBuf::new(alloc)?;
     let written = write_report(
         out,
@@ -73,7 +69,7 @@ pub(crate) fn analyse<R: Threads + Sync, S: Source, O: Sink, G: Gate>(
         analysis.components.as_ref(),
         &analysis.matching,
         report.order,
-        listed,
+        report.pairs.are_listed(),
     );
     hand_on(out, written)?;
     Ok(Answer::Positive)
@@ -88,15 +84,14 @@ fn analysis_of<R: Threads + Sync, G: Gate>(
     options: Options,
     gate: &G,
 ) -> Result<Analysis, OutOfMemory>
-    requires workers { HasWorkers options.choice }
-    requires version { IsVersion options.report.version }
     ensures decomposes { IfOk result (λ a. Decomposes pattern.now a.decomposition) }
     ensures least { IfOk result
-        (λ a. IsMaximumOrLeast pattern.now options.report.least a.matching.pairs) }
+        (λ a. IsMaximumOrLeast pattern.now (are_least options.report.pairs) a.matching.pairs) }
     ensures of_version { IfOk result
-        (λ a. AreOfVersion pattern.now options.report.version (components_in a.components)) }
+        (λ a. AreOfVersion pattern.now (number_of options.report.version)
+        (components_in a.components)) }
 {
-    let (choice, least) = (options.choice, options.report.least);
+    let (choice, least) = (options.choice, options.report.pairs.are_least());
     let (found, parts) = matched_parts_for(rt, alloc, pattern, choice, least, gate)?;
     let matching = least_if_asked(alloc, pattern, found, &parts, least)?;
     let decomposition = decompose(alloc, pattern, &matching, parts)?;
@@ -108,26 +103,18 @@ fn analysis_of<R: Threads + Sync, G: Gate>(
     })
 }
 
-/// Whether the report has pairs: those of any maximum matching, or those of the least one.
-fn lists_pairs(report: ReportOptions) -> bool
-    ensures { result ≡ report.pairs || report.least }
-{
-    report.pairs || report.least
-}
-
 /// The connected components of the outer parts, where this version of the report has them.
 fn components_for(
     alloc: Global,
-    version: u32,
+    version: Version,
     pattern: &Pattern,
     parts: &Parts,
 ) -> Result<Option<Components>, OutOfMemory>
-    requires version { IsVersion version }
-    requires parts { HasParts pattern.now parts.now }
-    ensures { IfOk result (λ c. AreOfVersion pattern.now version (components_in c)) }
+    requires { HasParts pattern.now parts.now }
+    ensures { IfOk result (λ c. AreOfVersion pattern.now (number_of version) (components_in c)) }
 {
-    if version == 1 {
-        return Ok(None);
+    match version {
+        Version::One => Ok(None),
+        Version::Two => Ok(Some(components(alloc, pattern, parts)?)),
     }
-    Ok(Some(components(alloc, pattern, parts)?))
 }

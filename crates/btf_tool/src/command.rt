@@ -4,7 +4,7 @@ ghost use Rattle.std.specs.Prelude.{map, string_bytes};
 ghost use Rattle.btf_words.specs.Words.{IsWithinLimits};
 ghost use Rattle.sp_ports.specs.Device.{CountHasNotFallen, IsUntouched, seen};
 ghost use Rattle.btf_tool.specs.Jobs.{GavePrefix, OfReading, ReadsFile};
-ghost use Rattle.btf_tool.specs.Runs.{Completes, JobSays, NameMaker, Says};
+ghost use Rattle.btf_tool.specs.Runs.{Completes, Fulfils, JobSays, NameMaker, Says, run_of};
 
 use crate::analyse_job::{Options, analyse};
 use crate::bottleneck_job::bottleneck;
@@ -16,7 +16,7 @@ use crate::rank_job::rank;
 use crate::refusals::refuse;
 use crate::{Answer, Refusal};
 use btf_check::one_verdict;
-use btf_words::{Job, WordsError, read_words};
+use btf_words::{Job, read_words};
 use integer_diagonal::full_matching_shows_rank;
 use sp_ids::Status;
 use sp_ports::{Gate, Sink, Source};
@@ -42,21 +42,10 @@ pub fn run<R: Threads + Sync, S: Source, O: Sink, E: Sink, G: Gate>(
     err: &mut E,
     gate: &G,
 ) -> Status
-    // What each status says.
-    ensures says { Says (record {
-      words = map string_bytes words.now;
-      input = seen S.left S.faults input.old input.new;
-      out = seen O.taken O.faults out.old out.new;
-      err = seen E.taken E.faults err.old err.new;
-    }) result }
-
-    // Which status has to come.
-    ensures complete { Completes (record {
-      words = map string_bytes words.now;
-      input = seen S.left S.faults input.old input.new;
-      out = seen O.taken O.faults out.old out.new;
-      err = seen E.taken E.faults err.old err.new;
-    }) result }
+    // What each status says, and which status has to come.
+    ensures status { Fulfils Says Completes (run_of (map string_bytes words.now)
+        (seen S.left S.faults input.old input.new) (seen O.taken O.faults out.old out.new)
+        (seen E.taken E.faults err.old err.new)) result }
 
     // No device's count of failures falls.
     ensures input_count { CountHasNotFallen (seen S.left S.faults input.old input.new) }
@@ -75,8 +64,7 @@ pub fn run<R: Threads + Sync, S: Source, O: Sink, E: Sink, G: Gate>(
     one_verdict();
     full_matching_shows_rank();
     match read_words(alloc, words) {
-        Err(WordsError::Usage) => refuse(err, &Refusal::Usage),
-        Err(WordsError::OutOfMemory) => refuse(err, &Refusal::OutOfMemory),
+        Err(error) => refuse(err, &Refusal::from(error)),
         Ok(job) => match perform(rt, alloc, job, input, out, gate) {
             Ok(answer) => answer.status(),
             Err(refusal) => refuse(err, &refusal),

@@ -4,12 +4,11 @@ ghost use Rattle.std.specs.Prelude.{IfOk, IfSome};
 ghost use Rattle.bip_graph.specs.Decompositions.{Decomposes, HasParts};
 ghost use Rattle.bip_graph.specs.Matching.{IsMaximumOf};
 ghost use Rattle.bip_graph.specs.OuterMarks.{AreOuterMarks};
-ghost use Rattle.btf_words.specs.Words.{HasWorkers};
 
 use crate::engines::matching_for;
 use bip_graph::{Decomposition, Matching, OuterMarks, Parts};
 use breadth_first_match::complete_with_marks;
-use btf_words::{Engine, EngineChoice};
+use btf_words::EngineChoice;
 use dm_coarse::{coarse, coarse_by_marks};
 use dm_fine::fine;
 use karp_sipser::start;
@@ -19,9 +18,9 @@ use sp_ports::Gate;
 use std::alloc::Global;
 use std::thread::Threads;
 
-/// A maximum matching, by the engine that is asked for with so many workers, and the coarse parts.
+/// A maximum matching, by the engine that is asked for, and the coarse parts.
 ///
-/// Answers `OutOfMemory` where the tables of the engine or of the coarse parts can't be had.
+/// Returns `OutOfMemory` if it cannot allocate the tables of the engine or of the coarse parts.
 pub(crate) fn matched_parts<R: Threads + Sync, G: Gate>(
     rt: &R,
     alloc: Global,
@@ -29,7 +28,6 @@ pub(crate) fn matched_parts<R: Threads + Sync, G: Gate>(
     choice: EngineChoice,
     gate: &G,
 ) -> Result<(Matching, Parts), OutOfMemory>
-    requires workers { HasWorkers choice }
     ensures maximum { IfOk result (λ p. IsMaximumOf pattern.now p.0) }
     ensures parts { IfOk result (λ p. HasParts pattern.now p.1) }
 {
@@ -51,11 +49,10 @@ pub(crate) fn matched_parts_for<R: Threads + Sync, G: Gate>(
     least: bool,
     gate: &G,
 ) -> Result<(Matching, Parts), OutOfMemory>
-    requires workers { HasWorkers choice }
     ensures maximum { IfOk result (λ p. IsMaximumOf pattern.now p.0) }
     ensures parts { IfOk result (λ p. HasParts pattern.now p.1) }
 {
-    let searches_depth_first = matches!(choice.engine, Engine::Pf | Engine::Graft);
+    let searches_depth_first = matches!(choice, EngineChoice::Pf | EngineChoice::Graft { .. });
     if !least || !searches_depth_first {
         return matched_parts(rt, alloc, pattern, choice, gate);
     }
@@ -86,7 +83,7 @@ fn parts_from<R: Threads + Sync>(
 
 /// The decomposition of a matrix, by a maximum matching of it, where the coarse parts are known.
 ///
-/// Answers `OutOfMemory` where the tables of the fine blocks can't be had.
+/// Returns `OutOfMemory` if it cannot allocate the tables of the fine blocks.
 pub(crate) fn decompose(
     alloc: Global,
     pattern: &Pattern,

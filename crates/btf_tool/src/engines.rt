@@ -5,11 +5,10 @@ ghost use Rattle.bip_graph.specs.Answers.{IsMaximumOrLeast};
 ghost use Rattle.bip_graph.specs.Decompositions.{HasParts};
 ghost use Rattle.bip_graph.specs.Matching.{IsMaximumOf};
 ghost use Rattle.bip_graph.specs.OuterMarks.{AreOuterMarks};
-ghost use Rattle.btf_words.specs.Words.{HasWorkers};
 ghost use Rattle.sp_ids.specs.Limits.{max_workers};
 
 use bip_graph::{Matching, OuterMarks, Parts};
-use btf_words::{Engine, EngineChoice};
+use btf_words::{Engine, EngineChoice, Workers};
 use hall_witness::plain;
 use karp_sipser::start;
 use least_match::least_by_parts;
@@ -23,9 +22,9 @@ use std::thread::Threads;
 /// A maximum matching of a matrix's entries, by the engine that is asked for.
 ///
 /// All engines but `Plain` begin with the start of Karp and Sipser. There may be 1 to 64 workers,
-/// for `Graft` alone: the other engines search in the calling thread. Answers `OutOfMemory` where
-/// the engine's tables can't be had. Memory and work are those of the start and of the engine, as
-/// their crates say.
+/// for `Graft` alone: the other engines search in the calling thread. Returns `OutOfMemory` if it
+/// cannot allocate the engine's tables. Memory and work are those of the start and of the engine,
+/// as their crates say.
 pub fn solve<R: Threads + Sync, G: Gate>(
     rt: &R,
     alloc: Global,
@@ -38,7 +37,7 @@ pub fn solve<R: Threads + Sync, G: Gate>(
     requires few { workers ≤ max_workers }
     ensures maximum { IfOk result (λ m. IsMaximumOf pattern.now m) }
 {
-    let choice = EngineChoice { engine, workers };
+    let choice = EngineChoice::with(engine, Workers::new(workers));
     let (matching, _marks) = matching_for(rt, alloc, pattern, choice, gate)?;
     Ok(matching)
 }
@@ -55,8 +54,8 @@ pub(crate) fn solve_with_marks(
     complete_with_marks(alloc, pattern, matching)
 }
 
-/// A maximum matching, by the engine that is asked for with so many workers, and what the last
-/// serial phase has marked, where it has such phases and they have gone on to the end.
+/// A maximum matching, by the engine that is asked for, and what the last serial phase has marked,
+/// where it has such phases and they have gone on to the end.
 pub(crate) fn matching_for<R: Threads + Sync, G: Gate>(
     rt: &R,
     alloc: Global,
@@ -64,27 +63,26 @@ pub(crate) fn matching_for<R: Threads + Sync, G: Gate>(
     choice: EngineChoice,
     gate: &G,
 ) -> Result<(Matching, Option<OuterMarks>), OutOfMemory>
-    requires workers { HasWorkers choice }
     ensures maximum { IfOk result (λ p. IsMaximumOf pattern.now p.0) }
     ensures marks { IfOk result (λ p. IfSome p.1 (AreOuterMarks pattern.now)) }
 {
-    match choice.engine {
-        Engine::Plain => {
+    match choice {
+        EngineChoice::Plain => {
             let (maximum, _columns) = plain(alloc, pattern)?;
             Ok((maximum, None))
         }
-        Engine::Mc21 => {
+        EngineChoice::Mc21 => {
             let matching = start(alloc, pattern)?;
             let maximum = mc21_match::complete(alloc, pattern, matching)?;
             Ok((maximum, None))
         }
-        Engine::Pf => {
+        EngineChoice::Pf => {
             let (maximum, marks) = solve_with_marks(alloc, pattern)?;
             Ok((maximum, Some(marks)))
         }
-        Engine::Graft => {
+        EngineChoice::Graft { workers } => {
             let matching = start(alloc, pattern)?;
-            let workers = choice.workers;
+            let workers = workers.number();
             tree_graft::complete_with_marks(rt, alloc, pattern, matching, workers, gate)
         }
     }

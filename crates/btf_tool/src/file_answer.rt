@@ -32,7 +32,7 @@ pub enum FileAnswer {
 /// What is found of a matrix file that these bytes are to be: at most 1,073,741,824 of them. The
 /// engine is Pothen and Fan's.
 ///
-/// Answers `OutOfMemory` where there is none for a buffer of 65,536 bytes, the file's entries, the
+/// Returns `OutOfMemory` if it cannot allocate a buffer of 65,536 bytes, the file's entries, the
 /// pattern, a maximum matching or what is found by it. All but what is found is let go again.
 pub fn answer_bytes<R: Threads + Sync>(
     rt: &R,

@@ -26,4 +26,4 @@ pub use command::run;
 pub use engines::solve;
 pub use file_answer::{FileAnswer, answer_bytes};
 pub use laws::{one_summary, unused_input_tells};
-pub use refusals::{Refusal, refuse};
+pub use refusals::{Refusal, refuse, want_of_words, write_line};

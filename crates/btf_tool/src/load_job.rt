@@ -3,7 +3,6 @@
 ghost use Rattle.std.specs.Prelude.{◌≤◌, IfOk};
 ghost use Rattle.bip_defs.specs.Matrix.{Matrix};
 ghost use Rattle.btf_words.specs.declared.jobs.Job.TheVariants.{Load};
-ghost use Rattle.btf_words.specs.Words.{HasWorkers};
 ghost use Rattle.sp_ids.specs.Limits.{max_load_size};
 ghost use Rattle.bip_graph.specs.Decompositions.{Decomposes};
 ghost use Rattle.sp_ports.specs.Device.{Device, IsUntouched, seen};
@@ -35,7 +34,6 @@ pub(crate) fn load<R: Threads + Sync, O: Sink, G: Gate>(
 ) -> Result<Answer, Refusal>
     requires some { 1 ≤ size }
     requires few { size ≤ max_load_size }
-    requires workers { HasWorkers choice }
     ensures { (input : Device) → IsUntouched input
         → JobSays (Load size seed choice) input (seen O.taken O.faults out.old out.new) result }
 {
@@ -57,7 +55,6 @@ fn decomposition_of<R: Threads + Sync, G: Gate>(
 ) -> Result<Decomposition, OutOfMemory>
     requires some { 1 ≤ size }
     requires few { size ≤ max_load_size }
-    requires workers { HasWorkers choice }
     ensures { IfOk result
         (λ d. (a : Matrix) × IsLoadMatrix size seed a × Decomposes a d) }
 {

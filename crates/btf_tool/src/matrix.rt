@@ -16,7 +16,7 @@ use std::thread::Threads;
 /// those whose values do not add up to 0. Its sizes fit 32 bits.
 ///
 /// Answers `NeedsInteger` exactly where zeros are dropped and the file is no integer file, and
-/// `OutOfMemory` where the tables of the pattern can't be had.
+/// `OutOfMemory` where the tables of the pattern cannot be allocated.
 pub(crate) fn matrix_of<R: Threads + Sync>(
     rt: &R,
     alloc: Global,

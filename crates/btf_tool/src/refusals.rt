@@ -1,16 +1,18 @@
 //! Why a run is refused, and how that is told.
 
 ghost use Rattle.std.specs.Prelude.{◌≡◌};
+ghost use Rattle.std.specs.IoError.{error_kind};
 ghost use Rattle.btf_tool.specs.declared.refusals.Refusal.TheVariants.{OutOfMemory as NoMemory, WriteFault};
-ghost use Rattle.btf_tool.specs.Refusals.{line_of, refusal_for, refusal_without_weights, status_of};
+ghost use Rattle.btf_tool.specs.Refusals.{line_of, refusal_for, refusal_without_weights, refusal_without_words, status_of, want_of_words as want_on};
 ghost use Rattle.sp_ports.specs.Device.{WroteAsFar, seen};
 
 use btf_lines::{limit_line, malformed_line, sum_limit_line};
-use btf_words::usage_line;
+use btf_words::{WordsError, usage_line};
 use mm_defs::{Kind, ReadError};
 use sp_ids::{Col, OutOfMemory, Row, Status};
 use sp_pattern::WeightError;
 use sp_ports::{Failed, Sink, write_all};
+use std::io;
 
 /// Why a run is refused.
 #[derive(Clone, Copy, Debug, PartialEq, Eq)]
@@ -50,6 +52,18 @@ impl From<Failed> for Refusal {
     /// Where an answer is written.
     fn from(_failed: Failed) -> Refusal {
         Refusal::WriteFault
+    }
+}
+
+impl From<WordsError> for Refusal {
+    ghost from_gives = { λ error refusal. refusal ≡ refusal_without_words error };
+
+    /// Where the words name no job.
+    fn from(error: WordsError) -> Refusal {
+        match error {
+            WordsError::Usage => Refusal::Usage,
+            WordsError::OutOfMemory => Refusal::OutOfMemory,
+        }
     }
 }
 
@@ -120,8 +134,18 @@ impl Refusal {
     }
 }
 
+/// Why there are no words: memory ran out, or one of them is not UTF-8, which no program takes.
+pub fn want_of_words(error: &io::Error) -> WordsError
+    ensures { result ≡ want_on (error_kind error.now) }
+{
+    match error.kind() {
+        io::ErrorKind::OutOfMemory => WordsError::OutOfMemory,
+        _ => WordsError::Usage,
+    }
+}
+
 /// Writes a line, or as much of it as the device takes.
-fn write_line<E: Sink>(err: &mut E, line: &[u8])
+pub fn write_line<E: Sink>(err: &mut E, line: &[u8])
     ensures { WroteAsFar (seen E.taken E.faults err.old err.new) line.now }
 {
     match write_all(err, line) {

@@ -70,7 +70,7 @@ fn counted<R: Threads + Sync, L: Ledger>(
 
 /// Makes an edit, and replies to it.
 ///
-/// Answers `OutOfMemory` where the session or a report has none, and where a place is set in a
+/// Returns `OutOfMemory` if it cannot allocate the session or a report, and where a place is set in a
 /// matrix of 4,294,967,295 entries.
 fn reply_to<R: Threads + Sync, L: Ledger>(
     rt: &R,

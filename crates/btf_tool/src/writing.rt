@@ -6,7 +6,7 @@ ghost use Rattle.sp_ports.specs.Device.{Writes};
 
 use sp_ports::{Failed, Sink};
 
-/// Hands on a text that was written, and tells whether both were done. After a write that failed
+/// Hands on a text that was written, and returns whether both were done. After a write that failed
 /// nothing is asked of the device.
 pub(crate) fn hand_on<O: Sink>(out: &mut O, written: Result<(), Failed>) -> Result<(), Failed>
     ensures { (taken : Option (List ℕ)) (faults : ℕ) (text : List ℕ)

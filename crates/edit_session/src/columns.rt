@@ -59,8 +59,8 @@ impl Columns {
     /// The columns of a matrix of so many entries, with room for a sixteenth more, so that the first
     /// entries that come find it.
     ///
-    /// Answers `OutOfMemory` where 16 bytes a column and 4.25 an entry can't be had. Work: one copy
-    /// of the lists.
+    /// Returns `OutOfMemory` if 16 bytes a column and 4.25 an entry cannot be allocated. Work:
+    /// one copy of the lists.
     pub fn of<N: Neighbours>(
         alloc: Global,
         neighbours: &N,
@@ -83,8 +83,8 @@ impl Columns {
 
     /// The columns of the transpose of a pattern: its rows, with room as in [`Columns::of`].
     ///
-    /// Answers `OutOfMemory` where 16 bytes a row, 4.25 an entry and a list of the longest row can't
-    /// be had. Work: one copy of the lists.
+    /// Returns `OutOfMemory` if 16 bytes a row, 4.25 an entry and a list of the longest row
+    /// cannot be allocated. Work: one copy of the lists.
     pub fn of_rows(alloc: Global, pattern: &Pattern) -> Result<Columns, OutOfMemory>
         ensures { IfOk result (λ s. s.matrix ≡ transpose pattern.now) }
     {
@@ -129,8 +129,8 @@ impl Columns {
     ///
     /// A column that has none moves to the end of the array, with twice the room. Where the array
     /// has grown past four times the entries and twice the columns, all lists are copied into a new
-    /// one first: that comes once in so many edits that their number pays for it. Answers
-    /// `OutOfMemory` where the new room or the new array can't be had.
+    /// one first: that comes once in so many edits that their number pays for it. Returns
+    /// `OutOfMemory` if it cannot allocate the new room or the new array.
     pub fn make_room(&mut self, alloc: Global, col: Col) -> Result<(), OutOfMemory>
         requires col { col < cols self.old.matrix }
         requires few { length (column self.old.matrix col) < self.old.matrix.rows }

@@ -15,7 +15,7 @@ use std::thread::Threads;
 
 /// The matrix of the columns, kept by columns and by rows.
 ///
-/// Answers `OutOfMemory` where 8 bytes an entry can't be had beside the pattern, or what
+/// Returns `OutOfMemory` if it cannot allocate 8 bytes an entry beside the pattern, or what
 /// [`Pattern::build`] takes. Work: linear in the entries, the rows and the columns.
 pub fn pattern_of<R: Threads + Sync>(
     rt: &R,

@@ -58,8 +58,9 @@ impl Model for Session {
 impl Session {
     /// A session that begins with this matrix. The matching must be a maximum one of its entries.
     ///
-    /// Answers `OutOfMemory` where 44 bytes a column, 16 a row and 8.5 an entry can't be had. Work:
-    /// one copy of the columns' lists and of the rows', and one search for the cover.
+    /// Returns `OutOfMemory` if 44 bytes a column, 16 a row and 8.5 an entry cannot be
+    /// allocated. Work: one copy of the columns' lists and of the rows', and one search for the
+    /// cover.
     pub fn new(alloc: Global, pattern: &Pattern, matching: Matching) -> Result<Session, OutOfMemory>
         requires { IsMaximumOf pattern.now matching }
         ensures matrix { IfOk result (λ s. s.matrix ≡ pattern.now) }
@@ -112,10 +113,10 @@ impl Session {
     /// The decomposition of the matrix and the connected components of its outer parts: the report
     /// of the matrix as it is.
     ///
-    /// Answers `OutOfMemory` where there is no memory for a pattern of the matrix, 8 bytes an entry
-    /// beside it, or what [`coarse`], [`fine`] and [`components`] take. Work: linear in the
-    /// entries, the rows and the columns, but for what the order of the blocks takes. It makes no
-    /// search for augmenting paths.
+    /// Returns `OutOfMemory` if it cannot allocate a pattern of the matrix, 8 bytes an entry beside
+    /// it, or what [`coarse`], [`fine`] and [`components`] take. Work: linear in the entries, the
+    /// rows and the columns, but for what the order of the blocks takes. It makes no search for
+    /// augmenting paths.
     pub fn report<R: Threads + Sync>(
         &self,
         rt: &R,
@@ -163,8 +164,8 @@ impl Session {
     ///   some maximum matching of the new matrix misses and one for each of their entries; these
     ///   columns are marked from then on, and no others.
     ///
-    /// Answers `OutOfMemory` where there is no memory for the entry; the session is then as it was.
-    /// A search takes none. Work: the search; where it begins at all unmatched columns, a look for
+    /// Returns `OutOfMemory` if it cannot allocate the entry; the session is then as it was. A
+    /// search takes none. Work: the search; where it begins at all unmatched columns, a look for
     /// its mate at each column that was unmatched at the last such search, or at first when the
     /// session began, and at each that a clear has left without one since, or at each column where
     /// these are more than there are columns; once in some 2,000,000,000 edits a stamp at each

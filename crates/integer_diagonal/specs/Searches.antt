@@ -1,5 +1,5 @@
 -- What a search from one column is asked and what it finds, and what is made of it.
-use Rattle.std.specs.Prelude.{◌≡◌, ℕ, ◌+◌, ◌^◌, ◌<◌, ◌≤◌, List, length, slice_index}
+use Rattle.std.specs.Prelude.{◌≡◌, ℕ, true, ◌+◌, ◌^◌, ◌<◌, ◌≤◌, List, [], ◌∷◌, ◌++◌, length, set, slice_index}
 use Rattle.bip_defs.specs.Lists.{Among, AreDistinct}
 use Rattle.bip_defs.specs.Matching.{Covers, cols_of, rows_of}
 use Rattle.bip_defs.specs.Matrix.{Place, cols}
@@ -69,3 +69,15 @@ pub record Extends {W : Type 0} (w : Weighing) (a b : Assignment W) : Type 0 whe
   pub assignment : IsAssignment w b
   pub top : b.top ≡ a.top
   pub covered : Covers a.matching.pairs b.matching.pairs
+
+-- the matched row is settled: its mate stands at the end of the queue, at the distance, below the
+-- column that reached the row
+pub record Settles {W : Type 0} (m : List Place) (row distance : ℕ) (s t : DijkstraSearch W) : Type 0 where
+  pub mate : ℕ
+  pub matched : Among (row, mate) m
+  pub tree : tree_of t ≡ record {
+    queue = s.queue.items ++ (mate, slice_index s.parents.items row) ∷ [];
+    depths = s.depths.items ++ distance ∷ [];
+  }
+  pub labels : labels_of t ≡ record (labels_of s) { settled = set s.settled.items row true }
+  pub listed : t.reached.items ≡ s.reached.items

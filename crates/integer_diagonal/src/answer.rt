@@ -35,7 +35,7 @@ use std::alloc::Global;
 ///
 /// The weights must be those of the pattern. `Rectangular` exactly where the matrix has not as many
 /// rows as columns; `Singular` exactly where it has, and its rank is less, with the columns that
-/// some maximum matching misses. Answers `OutOfMemory` where there is no memory for what
+/// some maximum matching misses. Returns `OutOfMemory` if it cannot allocate what
 /// `karp_sipser::start` and `breadth_first_match::complete` take, for the blocks, for a pattern of
 /// the entries that cost as much as the prices ask, for the prices of a phase and the weights row
 /// by row, which are 8 bytes an entry and 8 a row, or for the tables and the heap of a search. The

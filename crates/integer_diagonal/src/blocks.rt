@@ -38,9 +38,9 @@ impl PriceBlocks {
     /// few matrices have several), and where not all entries weigh `top`, the greatest weight; and
     /// they are left where prices that set them apart might pass 2^62.
     ///
-    /// Answers `OutOfMemory` where what `dm_coarse::coarse_in_turn` and
-    /// `square_components::strong_components` take, or 4 bytes a row, can't be had. Work: as these
-    /// two, and one look at each row, column and weight.
+    /// Returns `OutOfMemory` if it cannot allocate what `dm_coarse::coarse_in_turn` and
+    /// `square_components::strong_components` take, or 4 bytes a row. Work: as these two, and one
+    /// look at each row, column and weight.
     pub fn find(
         alloc: Global,
         weights: &Weights,

@@ -35,8 +35,8 @@ impl<W: Width> Distances<W> {
     /// reduced cost, and on from each matched one by its mate, until four in five of so many
     /// unmatched ones are reached, or there are no more within the greatest cost (Dijkstra 1959).
     ///
-    /// Answers `OutOfMemory` where the distances, or the heap, can't be had. Work: at most one look
-    /// at each entry.
+    /// Returns `OutOfMemory` if it cannot allocate the distances, or the heap. Work: at most one
+    /// look at each entry.
     pub fn spread(
         alloc: Global,
         graph: &WeightedPattern,

@@ -30,7 +30,7 @@ pub struct PathSearch<W: Width> {
 }
 
 impl<W: Width> PathSearch<W> {
-    /// For the columns of this matrix, or `OutOfMemory` where what it keeps can't be had.
+    /// For the columns of this matrix, or `OutOfMemory` where what it keeps cannot be allocated.
     pub fn new(alloc: Global, weights: &Weights) -> Result<PathSearch<W>, OutOfMemory>
         ensures { IfOk result (IsReady weights.now.matrix) }
     {
@@ -44,9 +44,9 @@ impl<W: Width> PathSearch<W> {
     /// loses its mate without a new one. Whether there was a path to an unmatched row: where there
     /// was none, the matrix has no full matching.
     ///
-    /// The path is written over what the list had, which has room for it. Answers `AllocError` where
-    /// what the search keeps can't be had. Work: one search, and one step for each column that it
-    /// came to.
+    /// The path is written over what the list had, which has room for it. Answers `AllocError`
+    /// where what the search keeps cannot be allocated. Work: one search, and one step for each
+    /// column that it came to.
     pub fn extend(
         &mut self,
         weights: &Weights,

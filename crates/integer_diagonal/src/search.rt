@@ -7,7 +7,7 @@ ghost use Rattle.bip_defs.specs.Matching.{cols_of, rows_of};
 ghost use Rattle.bip_defs.specs.Matrix.{cols};
 ghost use Rattle.integer_diagonal.specs.Labels.{AreBeyond, AreListed, IsClear, IsLabelled, Looks, Puts, Takes, labels_of, tree_of};
 ghost use Rattle.integer_diagonal.specs.Duals.{IsAssignment, priced};
-ghost use Rattle.integer_diagonal.specs.Searches.{CanBeCleared, CanSearch, Finds, HasLooked, StaysListed};
+ghost use Rattle.integer_diagonal.specs.Searches.{CanBeCleared, CanSearch, Finds, HasLooked, Settles, StaysListed};
 ghost use Rattle.integer_diagonal.specs.Amounts.{HasRoom, infinity};
 
 use crate::amount::Amount;
@@ -164,17 +164,8 @@ impl<W: Width> DijkstraSearch<W> {
         requires labelled { IsLabelled matching.now.pairs (labels_of self.old) row }
         requires few { length self.old.queue.items < 2 ^ 32 }
         ensures place { IfOk result (λ place. place ≡ length self.old.queue.items) }
-        ensures tree { OnOk result
-            ((c : ℕ) × Among (row, c) matching.now.pairs
-            × (tree_of self.new ≡ record {
-              queue = self.old.queue.items
-                  ++ (c, slice_index self.old.parents.items row) ∷ [];
-              depths = self.old.depths.items ++ distance ∷ [];
-            })) }
-        ensures labels { OnOk result
-            (labels_of self.new ≡ record (labels_of self.old)
-            { settled = set self.old.settled.items row true }) }
-        ensures listed { OnOk result (self.new.reached.items ≡ self.old.reached.items) }
+        ensures settles { OnOk result
+            (Settles matching.now.pairs row distance self.old self.new) }
     {
         let place = self.queue.len() as u32;
         match matching.col_of(Row(row)) {

@@ -19,8 +19,8 @@ use std::alloc::Global;
 ///
 /// No row and no column loses its mate without a new one, and the prices stay. Beside what it
 /// answers it takes a pattern of the tight entries, and what `breadth_first_match::complete` takes;
-/// answers `OutOfMemory` where that can't be had. Work: one look at each entry, and the phases of a
-/// maximum matching of the tight ones.
+/// returns `OutOfMemory` if that cannot be allocated. Work: one look at each entry, and the
+/// phases of a maximum matching of the tight ones.
 pub fn match_tight<W: Width>(
     alloc: Global,
     weights: &Weights,

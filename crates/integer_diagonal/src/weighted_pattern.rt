@@ -24,8 +24,8 @@ pub struct WeightedPattern<'a, 'p> {
 impl<'a, 'p> WeightedPattern<'a, 'p> {
     /// Puts down the weights of the rows.
     ///
-    /// Answers `OutOfMemory` where what it keeps, or 4 bytes a column, can't be had. Work: one look
-    /// at each entry.
+    /// Returns `OutOfMemory` if it cannot allocate what it keeps, or 4 bytes a column. Work: one
+    /// look at each entry.
     pub fn build(
         alloc: Global,
         weights: &'a Weights<'p>,

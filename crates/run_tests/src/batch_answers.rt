@@ -10,6 +10,7 @@ ghost use Rattle.batch_core.specs.Shares.{IsAnswerAt, IsWithinLimits};
 
 use batch_core::{Answers, Put, Share, answer_all};
 use btf_tool::{FileAnswer, answer_bytes};
+use btf_words::Workers;
 use claim_words::{ClaimBoard, ClaimSeat};
 use mm_defs::Kind;
 use sp_ids::OutOfMemory;
@@ -283,7 +284,7 @@ fn workers_find_all<R: Threads + Sync>(rt: &R, alloc: Global, workers: u32) -> b
     let Ok(files) = batch(alloc) else {
         return false;
     };
-    match answer_all(rt, alloc, files.as_slice(), workers, &NoGate) {
+    match answer_all(rt, alloc, files.as_slice(), Workers::new(workers), &NoGate) {
         Err(_) => false,
         Ok(answers) => are_all_found(&answers),
     }

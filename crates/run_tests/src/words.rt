@@ -1,7 +1,9 @@
 //! Words that name no job.
 
 use crate::runs::{ANSWERED, Run, SMALLEST, goes};
+use btf_tool::{Refusal, want_of_words};
 use sp_ids::Status;
+use std::io::{Error, ErrorKind};
 
 /// Words that are not taken, and the line for them.
 static OTHER_WORDS: Run = Run {
@@ -31,4 +33,15 @@ static OTHER_WORDS: Run = Run {
 #[test]
 fn other_words_are_refused(rt: HostRuntime) {
     assert!(rt; goes(&rt, &OTHER_WORDS));
+}
+
+/// Whether a process that gets no words for this reason is refused so.
+fn is_refused_for(kind: ErrorKind, refusal: &Refusal) -> bool {
+    Refusal::from(want_of_words(&Error::from(kind))) == *refusal
+}
+
+#[test]
+fn want_of_memory_is_told_apart(rt: HostRuntime) {
+    assert!(rt; is_refused_for(ErrorKind::OutOfMemory, &Refusal::OutOfMemory));
+    assert!(rt; is_refused_for(ErrorKind::InvalidData, &Refusal::Usage));
 }

@@ -4,7 +4,7 @@ use Rattle.sp_ports.specs.Device.{Took, TookPrefix, seen}
 use Rattle.btf_tool.specs.declared.answers.Answer.{Answer}
 use Rattle.batch_core.specs.BatchRuns.{BatchSays, WithAnswer}
 use Rattle.batch_core.specs.BatchText.{answer_of}
-use Rattle.batch_core.specs.declared.refusals.Refusal.TheVariants.{WriteFault}
+use Rattle.batch_core.specs.declared.refusals.BatchRefusal.TheVariants.{WriteFault}
 use Rattle.batch_core.proofs.BatchOutcomes.{with_answers}
 use Rattle.batch_core.proofs.BatchReadings.{as_refusal}
 use Rattle.batch_core.proofs.run.perform.Goals as goal

@@ -3,6 +3,7 @@ use Rattle.sp_ports.specs.Device.{seen}
 use Rattle.bip_graph.specs.Answers.{AreOfVersion}
 use Rattle.bip_graph.specs.declared.answers.Components.{Components}
 use Rattle.btf_text.specs.Reports.{components_in}
+use Rattle.btf_words.specs.Choices.{number_of}
 use Rattle.btf_words.specs.declared.jobs.Job.TheVariants.{Analyse}
 use Rattle.btf_tool.specs.Runs.{JobSays}
 use Rattle.btf_tool.specs.declared.answers.Answer.TheVariants.{Positive}
@@ -14,8 +15,8 @@ use Rattle.btf_tool.proofs.analyse_job.analyse.Goals as goal
 pub returns-in_err-hand_on-clause-says : goal.returns-in_err-hand_on-clause-says
 returns-in_err-hand_on-clause-says g c =
     let report = c.args.options.report in
-    let of_version = subst (λ (o : Option Components). AreOfVersion c.in_ok-pattern.pattern report.version (components_in o)) (sym c.as_ref.ensures.value) c.in_ok-analysis.ensures.of_version in
-    let answers = analysis_answers _ _ _ report.version _ report.order report.pairs report.least _ c.in_ok-analysis.ensures.decomposes c.in_ok-analysis.ensures.least c.is_matching.ensures.cols_rise of_version c.lists_pairs-listed.ensures in
+    let of_version = subst (λ (o : Option Components). AreOfVersion c.in_ok-pattern.pattern (number_of report.version) (components_in o)) (sym c.as_ref.ensures.value) c.in_ok-analysis.ensures.of_version in
+    let answers = analysis_answers _ _ _ _ report _ c.in_ok-analysis.ensures.decomposes c.in_ok-analysis.ensures.least c.is_matching.ensures.cols_rise of_version c.are_listed.ensures in
     let job = Analyse c.args.options.choice report c.args.options.drop_zeros in
     let input = seen g.S.Source.left g.S.Source.faults c.args.input.now c.read_file.new.input in
     let out = seen g.O.Sink.taken g.O.Sink.faults c.args.out.now c.hand_on.new.out in
@@ -27,8 +28,8 @@ returns-in_err-hand_on-clause-says g c =
 pub returns-clause-says : goal.returns-clause-says
 returns-clause-says g c =
     let report = c.args.options.report in
-    let of_version = subst (λ (o : Option Components). AreOfVersion c.in_ok-pattern.pattern report.version (components_in o)) (sym c.as_ref.ensures.value) c.in_ok-analysis.ensures.of_version in
-    let answers = analysis_answers _ _ _ report.version _ report.order report.pairs report.least _ c.in_ok-analysis.ensures.decomposes c.in_ok-analysis.ensures.least c.is_matching.ensures.cols_rise of_version c.lists_pairs-listed.ensures in
+    let of_version = subst (λ (o : Option Components). AreOfVersion c.in_ok-pattern.pattern (number_of report.version) (components_in o)) (sym c.as_ref.ensures.value) c.in_ok-analysis.ensures.of_version in
+    let answers = analysis_answers _ _ _ _ report _ c.in_ok-analysis.ensures.decomposes c.in_ok-analysis.ensures.least c.is_matching.ensures.cols_rise of_version c.are_listed.ensures in
     let job = Analyse c.args.options.choice report c.args.options.drop_zeros in
     let input = seen g.S.Source.left g.S.Source.faults c.args.input.now c.read_file.new.input in
     let out = seen g.O.Sink.taken g.O.Sink.faults c.args.out.now c.hand_on.new.out in

@@ -1,6 +1,6 @@
 use Rattle.std.proofs.Common.{subst, ◌∙◌, List, ℕ}
 use Rattle.sp_ports.specs.Device.{WroteAsFar, seen}
-use Rattle.batch_core.proofs.refusals.Refusal.tell.Goals as goal
+use Rattle.batch_core.proofs.refusals.BatchRefusal.tell.Goals as goal
 
 pub returns-in-Malformed : goal.returns-in-Malformed
 returns-in-Malformed g c =

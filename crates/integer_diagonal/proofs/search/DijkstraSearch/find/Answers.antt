@@ -37,12 +37,12 @@ settle-requires-clause-few g c =
 pub scan-requires-in-Some-clause-search : goal.scan-requires-in-Some-clause-search
 scan-requires-in-Some-clause-search g c =
     let e = c.in_ok-place.ensures in
-    (c.args.root, (stepped _ _ _ _ _ _ _ _ _ _ _ _ _ _ _ _ _ c.requires.can.assignment.matching c.loop-closest.invariant.search.1 c.in-Some.ensures.taken c.in-Some.ensures.tree e.tree.1 e.tree.2 e.labels (e.listed ∙ c.in-Some.ensures.listed) e.place).search)
+    (c.args.root, (stepped _ _ _ _ _ _ _ _ _ _ _ _ _ _ _ _ _ c.requires.can.assignment.matching c.loop-closest.invariant.search.1 c.in-Some.ensures.taken c.in-Some.ensures.tree e.settles.matched e.settles.tree e.settles.labels (e.settles.listed ∙ c.in-Some.ensures.listed) e.place).search)
 
 pub loop-closest-smaller : goal.loop-closest-smaller
 loop-closest-smaller g c =
     let e = c.in_ok-place.ensures in
-    let s = stepped _ _ _ _ _ _ _ _ _ _ _ _ _ _ _ _ _ c.requires.can.assignment.matching c.loop-closest.invariant.search.1 c.in-Some.ensures.taken c.in-Some.ensures.tree e.tree.1 e.tree.2 e.labels (e.listed ∙ c.in-Some.ensures.listed) e.place in
+    let s = stepped _ _ _ _ _ _ _ _ _ _ _ _ _ _ _ _ _ c.requires.can.assignment.matching c.loop-closest.invariant.search.1 c.in-Some.ensures.taken c.in-Some.ensures.tree e.settles.matched e.settles.tree e.settles.labels (e.settles.listed ∙ c.in-Some.ensures.listed) e.place in
     let short = queue_short _ _ _ _ s.search.grown in
     let same = ap (λ (z : Tree). length z.queue) c.in_ok-scan-2.ensures.tree in
     let before = ap (λ (z : Tree). length z.queue) c.in-Some.ensures.tree in
@@ -51,7 +51,7 @@ loop-closest-smaller g c =
 pub loop-closest-preserved : goal.loop-closest-preserved
 loop-closest-preserved g c =
     let e = c.in_ok-place.ensures in
-    let s = stepped _ _ _ _ _ _ _ _ _ _ _ _ _ _ _ _ _ c.requires.can.assignment.matching c.loop-closest.invariant.search.1 c.in-Some.ensures.taken c.in-Some.ensures.tree e.tree.1 e.tree.2 e.labels (e.listed ∙ c.in-Some.ensures.listed) e.place in
+    let s = stepped _ _ _ _ _ _ _ _ _ _ _ _ _ _ _ _ _ c.requires.can.assignment.matching c.loop-closest.invariant.search.1 c.in-Some.ensures.taken c.in-Some.ensures.tree e.settles.matched e.settles.tree e.settles.labels (e.settles.listed ∙ c.in-Some.ensures.listed) e.place in
     let w = c.in_ok-scan-2.ensures in
     let same : length c.scan-in-Some.new.self.queue.items ≡ c.in_ok-place.place + 1 = ap (λ (z : Tree). length z.queue) w.tree ∙ s.longer in
     record { search = (depth (tree_of c.scan-in-Some.new.self) c.in_ok-place.place, subst (IsSearch (priced c.args.weights.now c.args.assignment.now) c.args.assignment.now.matching.pairs c.args.root (tree_of c.scan-in-Some.new.self) (labels_of c.scan-in-Some.new.self) c.scan-in-Some.new.nearest c.scan-in-Some.new.self.reached.items (depth (tree_of c.scan-in-Some.new.self) c.in_ok-place.place)) (sym same) (w.search c.args.root s.search)) }
