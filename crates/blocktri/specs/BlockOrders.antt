@@ -1,5 +1,5 @@
 -- What is told of a square matrix of full rank.
-use Rattle.std.specs.Prelude.{◌≡◌, ℕ, ◌+◌, ◌<◌, ◌≤◌, List, length, slice_index}
+use Rattle.std.specs.Prelude.{◌≡◌, ℕ, ◌+◌, ◌<◌, ◌≤◌, IfNone, IfSome, List, Option, length, slice_index}
 use Rattle.bip_defs.specs.Blocks.{block_at}
 use Rattle.bip_defs.specs.Decomposition.{Decomposition, IsDecompositionOf}
 use Rattle.bip_defs.specs.Lists.{Among}
@@ -10,7 +10,8 @@ use Rattle.bip_graph.specs.Decompositions.{Decomposes}
 use Rattle.bip_graph.specs.Matching.{IsMaximumOf, Pairing}
 use Rattle.bip_graph.specs.Orders.{rows_before}
 use Rattle.bip_graph.specs.declared.answers.Decomposition as answers
-use Rattle.blocktri.specs.Answers.{AreBlockStarts}
+use Rattle.blocktri.specs.Answers.{AreBlockStarts, HasMatrix}
+use Rattle.blocktri.specs.PerfectMatchings.{HasNoPerfectMatching}
 
 -- orders of the rows and columns of a square matrix with entries all along the diagonal: the
 -- columns as its decomposition has them, and in the places of each block the rows of that block
@@ -29,6 +30,13 @@ pub record TellsBlockOrder (a : Matrix) (count : ℕ) (row_order column_order ol
       → Among (slice_index row_order k) (block_at decomposition.blocks b).rows
   pub starts : AreBlockStarts decomposition.blocks old_starts block_starts
   pub count_is : count ≡ length decomposition.blocks
+
+-- so many blocks and the orders of compressed columns, or none where there is no perfect matching
+pub record TellsOrders (rows : ℕ) (starts ids row_order column_order old_starts
+    block_starts : List ℕ) (count : Option ℕ) : Type 0 where
+  pub orders : IfSome count (λ k. HasMatrix rows starts ids
+      (λ a. TellsBlockOrder a k row_order column_order old_starts block_starts))
+  pub singular : IfNone count (HasMatrix rows starts ids HasNoPerfectMatching)
 
 -- the place is one of the block of this number
 pub record IsInBlock (count : ℕ) (block_starts : List ℕ) (b k : ℕ) : Type 0 where

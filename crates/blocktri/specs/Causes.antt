@@ -1,5 +1,5 @@
 -- Why there is no answer.
-use Rattle.std.specs.Prelude.{ℕ, List}
+use Rattle.std.specs.Prelude.{ℕ, IfErr, IfOk, List, Result}
 use Rattle.blocktri.specs.declared.refusals.Refusal.{Refusal}
 use Rattle.blocktri.specs.declared.refusals.Refusal.TheVariants.{Lengths, Columns}
 use Rattle.sp_pattern.specs.ColumnErrors.{IsColumnsError}
@@ -9,3 +9,9 @@ use Rattle.sp_pattern.specs.ColumnErrors.{IsColumnsError}
 abbrev pub IsRefusal : Type 0 → ℕ → List ℕ → List ℕ → Refusal → Type 0
 IsRefusal Fit rows starts ids Lengths = ¬ Fit
 IsRefusal Fit rows starts ids (Columns error) = Fit × IsColumnsError rows starts ids error
+
+-- a refusal has its cause, and an answer comes only where all lengths are right
+pub record RefusesRightly {S : Type 0} (Fit : Type 0) (rows : ℕ) (starts ids : List ℕ)
+    (result : Result S Refusal) : Type 0 where
+  pub fit : IfOk result (λ s. Fit)
+  pub cause : IfErr result (IsRefusal Fit rows starts ids)

@@ -1,5 +1,5 @@
 -- Why there is no answer of compressed columns with values.
-use Rattle.std.specs.Prelude.{ℕ, ℤ, List}
+use Rattle.std.specs.Prelude.{ℕ, ℤ, IfErr, IfOk, List, Result}
 use Rattle.blocktri.specs.declared.refusals.Refusal.TheVariants.{Columns}
 use Rattle.blocktri.specs.Causes.{IsRefusal}
 use Rattle.blocktri.specs.Diagonals.{HasWeights}
@@ -25,6 +25,12 @@ IsDiagonalRefusal Fit Large rows starts ids values Singular =
     Fit × HasWeights rows starts ids values (λ w. HasNoPerfectMatching w.matrix)
 IsDiagonalRefusal Fit Large rows starts ids values PriceLimit =
     Fit × HasWeights rows starts ids values Large
+
+-- a refusal has its cause, and an answer comes only where all lengths are right
+pub record RefusesDiagonalRightly {S : Type 0} (Fit : Type 0) (Large : Weighing → Type 0) (rows : ℕ)
+    (starts ids : List ℕ) (values : List ℤ) (result : Result S DiagonalRefusal) : Type 0 where
+  pub fit : IfOk result (λ s. Fit)
+  pub cause : IfErr result (IsDiagonalRefusal Fit Large rows starts ids values)
 
 -- the refusal of values that give no weights
 abbrev pub of_error : ValuesError → DiagonalRefusal

@@ -1,3 +1,4 @@
+pub mod Agreements
 pub mod Answers
 pub mod BlockOrders
 pub mod Causes

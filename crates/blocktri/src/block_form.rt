@@ -1,13 +1,13 @@
 //! The block triangular form.
 
-ghost use Rattle.std.specs.Prelude.{◌≡◌, ◌<◌, ◌^◌, IfErr, IfOk, IfSome, OnErr, length};
+ghost use Rattle.std.specs.Prelude.{◌≡◌, ◌<◌, ◌^◌, IfOk, IfSome, OnErr, length};
 ghost use Rattle.bip_defs.specs.ConnectedComponents.{AreConnectedComponents};
 ghost use Rattle.bip_defs.specs.Matrix.{Matrix};
 ghost use Rattle.bip_graph.specs.Decompositions.{Decomposes, components_of, decomposition_of};
 ghost use Rattle.bip_graph.specs.Matching.{IsMaximumOf};
 ghost use Rattle.bip_graph.specs.OuterMarks.{AreOuterMarks};
 ghost use Rattle.blocktri.specs.Answers.{AreSizesOf, HasMatrix, HaveFormLengths, Tells};
-ghost use Rattle.blocktri.specs.Causes.{IsRefusal};
+ghost use Rattle.blocktri.specs.Causes.{RefusesRightly};
 ghost use Rattle.blocktri.specs.OuterComponents.{TellsComponents};
 ghost use Rattle.sp_pattern.specs.Columns.{AreColumns, matrix_of};
 
@@ -82,15 +82,12 @@ pub fn decomposition<N: NumberList>(
         (λ a. Tells a s row_order.new column_order.new block_starts.old block_starts.new)) }
     ensures components { IfOk result (λ s. HasMatrix rows (N.numbers starts) (N.numbers ids)
         (λ a. TellsComponents a s row_component.new column_component.new)) }
-    ensures fit { IfOk result (λ s. HaveFormLengths rows (N.numbers starts) row_order.old
-        column_order.old block_starts.old row_component.old column_component.old) }
-    ensures refused { IfErr result (IsRefusal (HaveFormLengths rows (N.numbers starts)
-        row_order.old column_order.old block_starts.old row_component.old column_component.old)
-        rows (N.numbers starts) (N.numbers ids)) }
+    ensures refused { RefusesRightly (HaveFormLengths rows (N.numbers starts) row_order.old
+        column_order.old block_starts.old row_component.old column_component.old)
+        rows (N.numbers starts) (N.numbers ids) result }
     ensures kept { OnErr result ((row_order.new ≡ row_order.old)
         × (column_order.new ≡ column_order.old) × (block_starts.new ≡ block_starts.old)
-        × (row_component.new ≡ row_component.old)
-        × (column_component.new ≡ column_component.old)) }
+        × (row_component.new ≡ row_component.old) × (column_component.new ≡ column_component.old)) }
 {
     let cols = starts.len().saturating_sub(1);
     if row_order.len() as u64 != rows

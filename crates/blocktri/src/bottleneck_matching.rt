@@ -2,7 +2,7 @@
 
 ghost use Rattle.std.specs.Prelude.{◌≡◌, IfErr, IfOk, OnErr, length};
 ghost use Rattle.blocktri.specs.Diagonals.{HasWeights, HaveBottleneckLengths, TellsBottleneck};
-ghost use Rattle.blocktri.specs.DiagonalCauses.{IsDiagonalRefusal};
+ghost use Rattle.blocktri.specs.DiagonalCauses.{IsDiagonalRefusal, RefusesDiagonalRightly};
 ghost use Rattle.bip_defs.specs.Bottleneck.{IsBest};
 ghost use Rattle.sp_pattern.specs.Weights.{weight_at};
 
@@ -52,12 +52,10 @@ pub fn bottleneck<N: NumberList>(
     ensures found { IfOk result (λ l. HasWeights columns.now.rows (N.numbers columns.now.starts)
         (N.numbers columns.now.ids) columns.now.values.now
         (λ w. TellsBottleneck w l row_of_column.new shown_by.old shown_by.new)) }
-    ensures fit { IfOk result (λ l. HaveBottleneckLengths (N.numbers columns.now.starts)
-        (N.numbers columns.now.ids) columns.now.values.now row_of_column.old shown_by.old) }
-    ensures refused { IfErr result (IsDiagonalRefusal
+    ensures refused { RefusesDiagonalRightly
         (HaveBottleneckLengths (N.numbers columns.now.starts) (N.numbers columns.now.ids)
         columns.now.values.now row_of_column.old shown_by.old) (λ w. ⊥) columns.now.rows
-        (N.numbers columns.now.starts) (N.numbers columns.now.ids) columns.now.values.now) }
+        (N.numbers columns.now.starts) (N.numbers columns.now.ids) columns.now.values.now result }
     ensures kept { OnErr result ((row_of_column.new ≡ row_of_column.old)
         × (shown_by.new ≡ shown_by.old)) }
 {

@@ -1,12 +1,12 @@
 //! Orders of a square matrix with entries all along the diagonal.
 
-ghost use Rattle.std.specs.Prelude.{◌≡◌, ℕ, ◌+◌, ◌<◌, ◌^◌, IfErr, IfNone, IfOk, IfSome, OnErr, length};
+ghost use Rattle.std.specs.Prelude.{◌≡◌, ℕ, ◌+◌, ◌<◌, ◌^◌, IfNone, IfOk, IfSome, OnErr, length};
 ghost use Rattle.bip_defs.specs.Lists.{Among};
 ghost use Rattle.bip_defs.specs.Matching.{cols_of};
 ghost use Rattle.bip_defs.specs.Matrix.{Matrix};
-ghost use Rattle.blocktri.specs.Answers.{HasMatrix, HaveLengths};
-ghost use Rattle.blocktri.specs.BlockOrders.{AreMatesOf, IsPerfectOf, TellsBlockOrder};
-ghost use Rattle.blocktri.specs.Causes.{IsRefusal};
+ghost use Rattle.blocktri.specs.Answers.{HaveLengths};
+ghost use Rattle.blocktri.specs.BlockOrders.{AreMatesOf, IsPerfectOf, TellsBlockOrder, TellsOrders};
+ghost use Rattle.blocktri.specs.Causes.{RefusesRightly};
 ghost use Rattle.blocktri.specs.PerfectMatchings.{HasNoPerfectMatching};
 ghost use Rattle.sp_pattern.specs.Columns.{AreColumns, matrix_of};
 
@@ -43,18 +43,12 @@ pub fn block_order<N: NumberList>(
     column_order: &mut [u32],
     block_starts: &mut [u32],
 ) -> Result<Option<u32>, Refusal>
-    ensures found { IfOk result (λ o. IfSome o (λ k.
-        HasMatrix rows (N.numbers starts) (N.numbers ids)
-        (λ a. TellsBlockOrder a k row_order.new column_order.new block_starts.old
-        block_starts.new))) }
-    ensures singular { IfOk result (λ o. IfNone o
-        (HasMatrix rows (N.numbers starts) (N.numbers ids) HasNoPerfectMatching)) }
+    ensures found { IfOk result (TellsOrders rows (N.numbers starts) (N.numbers ids)
+        row_order.new column_order.new block_starts.old block_starts.new) }
     ensures untouched { IfOk result (λ o. IfNone o ((row_order.new ≡ row_order.old)
         × (column_order.new ≡ column_order.old) × (block_starts.new ≡ block_starts.old))) }
-    ensures fit { IfOk result (λ o. HaveLengths rows (N.numbers starts) row_order.old
-        column_order.old block_starts.old) }
-    ensures refused { IfErr result (IsRefusal (HaveLengths rows (N.numbers starts) row_order.old
-        column_order.old block_starts.old) rows (N.numbers starts) (N.numbers ids)) }
+    ensures refused { RefusesRightly (HaveLengths rows (N.numbers starts) row_order.old
+        column_order.old block_starts.old) rows (N.numbers starts) (N.numbers ids) result }
     ensures kept { OnErr result ((row_order.new ≡ row_order.old)
         × (column_order.new ≡ column_order.old) × (block_starts.new ≡ block_starts.old)) }
 {

@@ -2,7 +2,7 @@
 
 ghost use Rattle.std.specs.Prelude.{◌≡◌, ◌≤ℤ◌, pos, IfErr, IfOk, OnErr, length};
 ghost use Rattle.blocktri.specs.Diagonals.{HasNoNarrowPrices, HasWeights, HaveHeaviestLengths, IsNarrowDiagonal, TellsHeaviest, number_of};
-ghost use Rattle.blocktri.specs.DiagonalCauses.{IsDiagonalRefusal};
+ghost use Rattle.blocktri.specs.DiagonalCauses.{IsDiagonalRefusal, RefusesDiagonalRightly};
 
 use crate::diagonal_refusals::{DiagonalRefusal, NO_MEMORY};
 use crate::narrow_prices::{narrow, write_prices};
@@ -56,13 +56,10 @@ pub fn heaviest<N: NumberList>(
     ensures found { IfOk result (λ s. HasWeights columns.now.rows (N.numbers columns.now.starts)
         (N.numbers columns.now.ids) columns.now.values.now
         (λ w. TellsHeaviest w s row_of_column.new row_prices.new column_prices.new)) }
-    ensures fit { IfOk result (λ s. HaveHeaviestLengths columns.now.rows
-        (N.numbers columns.now.starts) (N.numbers columns.now.ids) columns.now.values.now
-        row_of_column.old row_prices.old column_prices.old) }
-    ensures refused { IfErr result (IsDiagonalRefusal (HaveHeaviestLengths columns.now.rows
+    ensures refused { RefusesDiagonalRightly (HaveHeaviestLengths columns.now.rows
         (N.numbers columns.now.starts) (N.numbers columns.now.ids) columns.now.values.now
         row_of_column.old row_prices.old column_prices.old) HasNoNarrowPrices columns.now.rows
-        (N.numbers columns.now.starts) (N.numbers columns.now.ids) columns.now.values.now) }
+        (N.numbers columns.now.starts) (N.numbers columns.now.ids) columns.now.values.now result }
     ensures kept { OnErr result ((row_of_column.new ≡ row_of_column.old)
         × (row_prices.new ≡ row_prices.old) × (column_prices.new ≡ column_prices.old)) }
 {

@@ -1,15 +1,13 @@
 //! Laws on the answers, at no cost.
 
-ghost use Rattle.std.specs.Prelude.{◌≡◌, ◌↔◌, ◌-◌, ℕ, Bool, IfSome, List, length, slice_index, true};
+ghost use Rattle.std.specs.Prelude.{◌≡◌, ◌↔◌, ◌-◌, ℕ, Bool, List, length, slice_index, true};
 ghost use Rattle.bip_defs.specs.Lists.{Among};
 ghost use Rattle.bip_defs.specs.Matching.{IsRank};
 ghost use Rattle.bip_defs.specs.Matrix.{HasPlaces, Matrix, Place};
 ghost use Rattle.bip_graph.specs.Answers.{IsAnalysis};
-ghost use Rattle.blocktri.specs.Answers.{AreRowsOf, IsWritten, Tells, TellsMatching};
+ghost use Rattle.blocktri.specs.Agreements.{ComponentsAgree, EachComponentsAre, EachFormIsOf, EachLeastMatchingIs, EachRankIs, LeastMatchingsAgree, OrdersAgree, SizesAgree};
 ghost use Rattle.blocktri.specs.BlockOrders.{IsUpperByBlocks, TellsBlockOrder};
-ghost use Rattle.blocktri.specs.OuterComponents.{HasComponents, TellsComponents};
 ghost use Rattle.blocktri.specs.PerfectMatchings.{HasNoPerfectMatching, IsBelowFullRank};
-ghost use Rattle.blocktri.specs.declared.block_form.Sizes.{Sizes};
 ghost use Rattle.sp_pattern.specs.Columns.{AreColumns, matrix_of, places_of};
 
 use bip_graph::orders_are_block_upper_triangular;
@@ -27,17 +25,10 @@ pub fn answers_are_those_of_a_file()
         → ((p : Place) → Among p places ↔ Among p (places_of starts ids))
         → HasPlaces rows (length starts - 1) places a → a ≡ matrix_of rows starts ids }
     ensures rank { (a : Matrix) (j k : ℕ) → IsRank a j → IsRank a k → j ≡ k }
-    ensures decomposition { (a : Matrix) (s t : Sizes) (rows columns starts rows2 columns2 starts2
-        old : List ℕ) → Tells a s rows columns old starts → Tells a t rows2 columns2 old starts2
-        → (rows ≡ rows2) × (columns ≡ columns2) × (starts ≡ starts2) }
-    ensures components { (a : Matrix) (s t : Sizes) (rows columns rows2 columns2 : List ℕ)
-        → TellsComponents a s rows columns → TellsComponents a t rows2 columns2
-        → (rows ≡ rows2) × (columns ≡ columns2) }
-    ensures sizes { (a : Matrix) (s t : Sizes) (xs ys zs xs2 ys2 zs2 xs3 ys3 xs4 ys4 old : List ℕ)
-        → Tells a s xs ys old zs → TellsComponents a s xs3 ys3 → Tells a t xs2 ys2 old zs2
-        → TellsComponents a t xs4 ys4 → s ≡ t }
-    ensures least_matching { (a : Matrix) (j k : ℕ) (xs ys : List ℕ) → TellsMatching a true j xs
-        → TellsMatching a true k ys → (j ≡ k) × (xs ≡ ys) }
+    ensures decomposition { (a : Matrix) → OrdersAgree a }
+    ensures components { (a : Matrix) → ComponentsAgree a }
+    ensures sizes { (a : Matrix) → SizesAgree a }
+    ensures least_matching { (a : Matrix) → LeastMatchingsAgree a }
 {
     columns_give_their_places();
 }
@@ -47,20 +38,13 @@ pub fn answers_are_those_of_a_file()
 /// components, where it lists them; and the least matching, where its pairs are that one.
 pub fn answers_are_those_of_a_report()
     ensures rank { (a : Matrix) (version : ℕ) (order pairs least : Bool) (text : List ℕ)
-        (t : IsAnalysis a version order pairs least text) (k : ℕ) → IsRank a k
-        → k ≡ t.decomposition.rank }
+        (t : IsAnalysis a version order pairs least text) → EachRankIs a t.decomposition.rank }
     ensures decomposition { (a : Matrix) (version : ℕ) (order pairs least : Bool) (text : List ℕ)
-        (t : IsAnalysis a version order pairs least text) (s : Sizes)
-        (rows columns old starts : List ℕ) → Tells a s rows columns old starts
-        → IsWritten t.decomposition s rows columns old starts }
+        (t : IsAnalysis a version order pairs least text) → EachFormIsOf a t.decomposition }
     ensures components { (a : Matrix) (version : ℕ) (order pairs least : Bool) (text : List ℕ)
-        (t : IsAnalysis a version order pairs least text) (s : Sizes) (rows columns : List ℕ)
-        → TellsComponents a s rows columns
-        → IfSome t.components (λ c. HasComponents a c s rows columns) }
+        (t : IsAnalysis a version order pairs least text) → EachComponentsAre a t.components }
     ensures least { (a : Matrix) (version : ℕ) (order pairs : Bool) (text : List ℕ)
-        (t : IsAnalysis a version order pairs true text) (k : ℕ) (xs : List ℕ)
-        → TellsMatching a true k xs
-        → IfSome t.matching (λ m. (k ≡ length m) × AreRowsOf m xs) }
+        (t : IsAnalysis a version order pairs true text) → EachLeastMatchingIs a t.matching }
 {}
 
 /// A matrix has no perfect matching exactly where it is not square or its rank is less than its

@@ -7,7 +7,7 @@ ghost use Rattle.bip_defs.specs.Matrix.{Matrix, cols};
 ghost use Rattle.bip_graph.specs.Answers.{IsMaximumOrLeast};
 ghost use Rattle.bip_graph.specs.Matching.{IsMaximumOf, none};
 ghost use Rattle.blocktri.specs.Answers.{AreRowsOf, HasLength, HasMatrix, TellsMatching};
-ghost use Rattle.blocktri.specs.Causes.{IsRefusal};
+ghost use Rattle.blocktri.specs.Causes.{RefusesRightly};
 ghost use Rattle.sp_pattern.specs.Columns.{AreColumns, matrix_of};
 
 use crate::maximum::{matched_for_the_least, maximum_matching};
@@ -39,9 +39,8 @@ pub fn matching<N: NumberList>(
 ) -> Result<u32, Refusal>
     ensures found { IfOk result (λ k. HasMatrix rows (N.numbers starts) (N.numbers ids)
         (λ a. TellsMatching a is_least k row_of_column.new)) }
-    ensures fit { IfOk result (λ k. HasLength (N.numbers starts) row_of_column.old) }
-    ensures refused { IfErr result (IsRefusal (HasLength (N.numbers starts) row_of_column.old)
-        rows (N.numbers starts) (N.numbers ids)) }
+    ensures refused { RefusesRightly (HasLength (N.numbers starts) row_of_column.old)
+        rows (N.numbers starts) (N.numbers ids) result }
     ensures kept { OnErr result (row_of_column.new ≡ row_of_column.old) }
 {
     if row_of_column.len() != starts.len().saturating_sub(1) {

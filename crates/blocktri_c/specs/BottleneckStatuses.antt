@@ -1,10 +1,11 @@
 -- What a call on the bottleneck leaves, by its status.
-use Rattle.std.specs.Prelude.{◌≡◌, ◌≢◌, ◌×◌, ⊥, ℕ, ℤ, List, pos}
+use Rattle.std.specs.Prelude.{◌≡◌, ◌≢◌, ℕ, ℤ, List, pos}
 use Rattle.blocktri.specs.DiagonalCauses.{IsDiagonalRefusal}
 use Rattle.blocktri.specs.Diagonals.{HasWeights, HaveBottleneckLengths, TellsBottleneck}
 use Rattle.blocktri_c.specs.DiagonalStatuses.{RefusesDiagonal}
 
--- the lists that the pairs and the columns are written to, the least weight and how many columns show it
+-- the lists that the pairs and the columns are written to, the least weight, and how many columns
+-- show it
 pub record BottleneckLists : Type 0 where
   pub row_of_column : List ℕ
   pub least : ℕ
@@ -21,7 +22,8 @@ bottleneck_lists row_of_column least columns columns_count = record {
 
 -- each list is as long as the matrix asks
 abbrev pub HasRoomForColumns : List ℕ → List ℕ → List ℤ → BottleneckLists → Type 0
-HasRoomForColumns starts ids values l = HaveBottleneckLengths starts ids values l.row_of_column l.columns
+HasRoomForColumns starts ids values l =
+    HaveBottleneckLengths starts ids values l.row_of_column l.columns
 
 -- at status 0 the answer stands in the lists; at any other all is as it was
 pub record AnswersBottleneck (status : ℤ) (rows : ℕ) (starts ids : List ℕ) (values : List ℤ)

@@ -1,5 +1,5 @@
 -- What a call on the block triangular form leaves, by its status.
-use Rattle.std.specs.Prelude.{◌≡◌, ◌≢◌, ◌×◌, ℕ, ℤ, List, pos}
+use Rattle.std.specs.Prelude.{◌≡◌, ◌≢◌, ℕ, ℤ, List, pos}
 use Rattle.blocktri.specs.Answers.{HasMatrix, HaveFormLengths, Tells}
 use Rattle.blocktri.specs.Causes.{IsRefusal}
 use Rattle.blocktri.specs.OuterComponents.{TellsComponents}
@@ -36,7 +36,8 @@ pub record AnswersForm (status : ℤ) (rows : ℕ) (starts ids : List ℕ) (old 
   pub components : status ≡ pos 0 → HasMatrix rows starts ids
       (λ a. TellsComponents a new_sizes new.row_component new.column_component)
   pub fit : status ≡ pos 0 → HasRoom rows starts old
-  pub kept : status ≢ pos 0 → (new.row_order ≡ old.row_order) × (new.column_order ≡ old.column_order)
+  pub kept : status ≢ pos 0 → (new.row_order ≡ old.row_order)
+      × (new.column_order ≡ old.column_order)
       × (new.block_starts ≡ old.block_starts) × (new.row_component ≡ old.row_component)
       × (new.column_component ≡ old.column_component) × (new_sizes ≡ old_sizes)
 
@@ -44,4 +45,5 @@ pub record AnswersForm (status : ℤ) (rows : ℕ) (starts ids : List ℕ) (old 
 pub record TellsFault (status : ℤ) (rows : ℕ) (starts ids : List ℕ) (lists : FormLists)
     (old new : ℕ) : Type 0 where
   pub no_fault : status ≡ pos 0 → new ≡ old
-  pub refused : status ≢ pos 0 → Refuses (IsRefusal (HasRoom rows starts lists) rows starts ids) status old new
+  pub refused : status ≢ pos 0
+      → Refuses (IsRefusal (HasRoom rows starts lists) rows starts ids) status old new

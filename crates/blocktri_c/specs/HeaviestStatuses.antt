@@ -1,5 +1,5 @@
 -- What a call on the heaviest diagonal leaves, by its status.
-use Rattle.std.specs.Prelude.{◌≡◌, ◌≢◌, ◌×◌, ℕ, ℤ, List, pos}
+use Rattle.std.specs.Prelude.{◌≡◌, ◌≢◌, ℕ, ℤ, List, pos}
 use Rattle.blocktri.specs.DiagonalCauses.{IsDiagonalRefusal}
 use Rattle.blocktri.specs.Diagonals.{HasNoNarrowPrices, HasWeights, HaveHeaviestLengths, TellsHeaviest}
 use Rattle.blocktri.specs.declared.heaviest_diagonal.Sum.{Sum}
@@ -32,7 +32,8 @@ pub record AnswersHeaviest (status : ℤ) (rows : ℕ) (starts ids : List ℕ) (
       (λ w. TellsHeaviest w new.sum new.row_of_column new.row_prices new.column_prices)
   pub fit : status ≡ pos 0 → HasRoomForPrices rows starts ids values old
   pub kept : status ≢ pos 0 → (new.row_of_column ≡ old.row_of_column)
-      × (new.row_prices ≡ old.row_prices) × (new.column_prices ≡ old.column_prices) × (new.sum ≡ old.sum)
+      × (new.row_prices ≡ old.row_prices) × (new.column_prices ≡ old.column_prices)
+      × (new.sum ≡ old.sum)
 
 -- at a refusal the status and the place of the fault tell its cause
 pub record TellsHeaviestFault (status : ℤ) (rows : ℕ) (starts ids : List ℕ) (values : List ℤ)

@@ -1,5 +1,5 @@
 -- What a call on orders with a full diagonal leaves, by its status.
-use Rattle.std.specs.Prelude.{◌≡◌, ◌≢◌, ◌×◌, ◌⊎◌, ℕ, ℤ, List, pos}
+use Rattle.std.specs.Prelude.{◌≡◌, ◌≢◌, ◌⊎◌, ℕ, ℤ, List, pos}
 use Rattle.blocktri.specs.Answers.{HasMatrix, HaveLengths}
 use Rattle.blocktri.specs.BlockOrders.{TellsBlockOrder}
 use Rattle.blocktri.specs.Causes.{IsRefusal}
@@ -27,12 +27,15 @@ HasRoomForOrders rows starts l = HaveLengths rows starts l.row_order l.column_or
 
 -- at status 0 the answer stands in the lists; at 1 the matrix has no perfect matching; at any but 0
 -- all is as it was
-pub record AnswersOrder (status : ℤ) (rows : ℕ) (starts ids : List ℕ) (old new : OrderLists) : Type 0 where
+pub record AnswersOrder (status : ℤ) (rows : ℕ) (starts ids : List ℕ)
+    (old new : OrderLists) : Type 0 where
   pub found : status ≡ pos 0 → HasMatrix rows starts ids
-      (λ a. TellsBlockOrder a new.blocks new.row_order new.column_order old.block_starts new.block_starts)
+      (λ a. TellsBlockOrder a new.blocks new.row_order new.column_order old.block_starts
+      new.block_starts)
   pub singular : status ≡ pos 1 → HasMatrix rows starts ids HasNoPerfectMatching
   pub fit : (status ≡ pos 0) ⊎ (status ≡ pos 1) → HasRoomForOrders rows starts old
-  pub kept : status ≢ pos 0 → (new.row_order ≡ old.row_order) × (new.column_order ≡ old.column_order)
+  pub kept : status ≢ pos 0 → (new.row_order ≡ old.row_order)
+      × (new.column_order ≡ old.column_order)
       × (new.block_starts ≡ old.block_starts) × (new.blocks ≡ old.blocks)
 
 -- at a refusal the status and the place of the fault tell its cause
