@@ -2,7 +2,7 @@
 
 ghost use Rattle.std.specs.Prelude.{◌≡◌};
 ghost use Rattle.blocktri.specs.declared.refusals.Refusal.TheVariants.{Columns};
-ghost use Rattle.sp_pattern.specs.declared.columns.ColumnsError.TheVariants.{OutOfMemory as out_of_memory};
+ghost use Rattle.sp_pattern.specs.declared.columns.ColumnsError.TheVariants.{OutOfMemory as NoMemory};
 
 use sp_ids::OutOfMemory;
 use sp_pattern::ColumnsError;
@@ -26,7 +26,7 @@ impl From<ColumnsError> for Refusal {
 }
 
 impl From<OutOfMemory> for Refusal {
-    ghost from_gives = { λ _ refusal. refusal ≡ Columns out_of_memory };
+    ghost from_gives = { λ _ refusal. refusal ≡ Columns NoMemory };
 
     fn from(_refused: OutOfMemory) -> Refusal {
         Refusal::Columns(ColumnsError::OutOfMemory)
