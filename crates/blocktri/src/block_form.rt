@@ -19,7 +19,7 @@ use bip_graph::{Components, Decomposition, Matching, OuterMarks};
 use dm_coarse::{coarse_by_marks, coarse_in_turn, components};
 use dm_fine::fine;
 use sp_ids::OutOfMemory;
-use sp_pattern::{ColumnsError, NumberList, Pattern, check_columns};
+use sp_pattern::{NumberList, Pattern, check_columns};
 use std::alloc::Global;
 
 /// The sizes of a block triangular form.
@@ -98,12 +98,8 @@ pub fn decomposition<N: NumberList>(
     {
         return Err(Refusal::Lengths);
     }
-    if let Err(error) = check_columns(rows, starts, ids) {
-        return Err(Refusal::Columns(error));
-    }
-    let Ok((found, outer)) = decompose(alloc, rows as u32, starts, ids) else {
-        return Err(Refusal::Columns(ColumnsError::OutOfMemory));
-    };
+    check_columns(rows, starts, ids)?;
+    let (found, outer) = decompose(alloc, rows as u32, starts, ids)?;
     write_row_order(&found, row_order);
     write_column_order(&found, column_order);
     write_block_starts(&found, block_starts);

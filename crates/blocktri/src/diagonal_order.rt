@@ -16,7 +16,7 @@ use crate::orders::{lengths_add_up, write_block_starts, write_column_order};
 use crate::refusals::Refusal;
 use bip_graph::{Decomposition, Matching};
 use sp_ids::{Col, OutOfMemory, Row};
-use sp_pattern::{ColumnsError, NumberList, check_columns};
+use sp_pattern::{NumberList, check_columns};
 use std::alloc::Global;
 
 /// What KLU asks of a square matrix of full structural rank (Davis and Palamadai Natarajan 2010):
@@ -58,13 +58,10 @@ pub fn block_order<N: NumberList>(
     {
         return Err(Refusal::Lengths);
     }
-    if let Err(error) = check_columns(rows, starts, ids) {
-        return Err(Refusal::Columns(error));
-    }
-    match perfect(alloc, rows as u32, starts, ids) {
-        Err(_) => Err(Refusal::Columns(ColumnsError::OutOfMemory)),
-        Ok(None) => Ok(None),
-        Ok(Some((found, matching))) => {
+    check_columns(rows, starts, ids)?;
+    match perfect(alloc, rows as u32, starts, ids)? {
+        None => Ok(None),
+        Some((found, matching)) => {
             let blocks = write(&found, &matching, row_order, column_order, block_starts);
             Ok(Some(blocks))
         }

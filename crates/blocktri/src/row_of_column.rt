@@ -15,7 +15,7 @@ use crate::refusals::Refusal;
 use bip_graph::Matching;
 use least_match::least;
 use sp_ids::{Col, OutOfMemory, Row};
-use sp_pattern::{ColumnsError, NumberList, check_columns};
+use sp_pattern::{NumberList, check_columns};
 use std::alloc::Global;
 
 // Stands for no row: no row has this number.
@@ -46,12 +46,8 @@ pub fn matching<N: NumberList>(
     if row_of_column.len() != starts.len().saturating_sub(1) {
         return Err(Refusal::Lengths);
     }
-    if let Err(error) = check_columns(rows, starts, ids) {
-        return Err(Refusal::Columns(error));
-    }
-    let Ok(matching) = wanted(alloc, rows as u32, starts, ids, is_least) else {
-        return Err(Refusal::Columns(ColumnsError::OutOfMemory));
-    };
+    check_columns(rows, starts, ids)?;
+    let matching = wanted(alloc, rows as u32, starts, ids, is_least)?;
     write_rows(&matching, row_of_column);
     Ok(matching.size())
 }

@@ -7,7 +7,7 @@ use Rattle.blocktri.proofs.block_form.decomposition.Goals as goal
 
 pub write_column_order-requires-clause-room : goal.write_column_order-requires-clause-room
 write_column_order-requires-clause-room g c =
-    let n = c.in-Ok.ensures.decomposition.cols_are ∙ upto_mapped (rows_given _ (g.N.NumberList.numbers c.args.starts) (g.N.NumberList.numbers c.args.ids)) (length (g.N.NumberList.numbers c.args.starts) - 1) in
+    let n = c.in_ok-found.ensures.decomposition.cols_are ∙ upto_mapped (rows_given _ (g.N.NumberList.numbers c.args.starts) (g.N.NumberList.numbers c.args.ids)) (length (g.N.NumberList.numbers c.args.starts) - 1) in
     let test = c.if-column_order-cols.false in
     let sub = c.saturating_sub-cols.ensures in
     let len = c.len.ensures in
@@ -15,10 +15,10 @@ write_column_order-requires-clause-room g c =
 
 pub write_block_starts-requires-clause-room : goal.write_block_starts-requires-clause-room
 write_block_starts-requires-clause-room g c =
-    let n = c.in-Ok.ensures.decomposition.cols_are ∙ upto_mapped (rows_given _ (g.N.NumberList.numbers c.args.starts) (g.N.NumberList.numbers c.args.ids)) (length (g.N.NumberList.numbers c.args.starts) - 1) in
+    let n = c.in_ok-found.ensures.decomposition.cols_are ∙ upto_mapped (rows_given _ (g.N.NumberList.numbers c.args.starts) (g.N.NumberList.numbers c.args.ids)) (length (g.N.NumberList.numbers c.args.starts) - 1) in
     let test = c.if-block_starts-len.false in
     let len = c.len-else-column_order-cols.ensures in
-    let one = c.in_default.ensures.columns.starts_are.one in
+    let one = c.in_ok-check_columns.ensures.columns.starts_are.one in
     omega (arith, n, test, len, one)
 
 pub write_components-requires-clause-some : goal.write_components-requires-clause-some
@@ -29,7 +29,7 @@ write_components-requires-clause-some g c =
     let test = c.if-column_component-cols.false in
     let sub = c.saturating_sub-cols.ensures in
     let len = c.len.ensures in
-    (a, c.in-Ok.ensures.components, omega (arith, rows), omega (arith, wide, test, sub, len))
+    (a, c.in_ok-found.ensures.components, omega (arith, rows), omega (arith, wide, test, sub, len))
 
 pub returns-clause-components : goal.returns-clause-components
 returns-clause-components g c =
@@ -42,12 +42,12 @@ returns-clause-components g c =
     let long : length c.args.row_component.now ≡ c.args.rows = omega (arith, rows) in
     let across : length c.args.column_component.now ≡ cols a = omega (arith, wide, test, sub, len) in
     record {
-      columns = c.in_default.ensures.columns;
+      columns = c.in_ok-check_columns.ensures.columns;
       holds = record {
-        components = components_of c.in-Ok.outer;
-        are_components = c.in-Ok.ensures.components;
+        components = components_of c.in_ok-found.outer;
+        are_components = c.in_ok-found.ensures.components;
         horizontal = c.sizes_of.ensures.horizontal;
         vertical = c.sizes_of.ensures.vertical;
-        numbers = c.write_components.ensures a c.in-Ok.ensures.components long across;
+        numbers = c.write_components.ensures a c.in_ok-found.ensures.components long across;
       };
     }

@@ -5,7 +5,7 @@ use Rattle.blocktri.proofs.diagonal_order.block_order.Goals as goal
 
 pub write-blocks-requires-clause-columns : goal.write-blocks-requires-clause-columns
 write-blocks-requires-clause-columns g c =
-    let is = rw c.in-Ok-Some.field-0-is at c.in-Ok-Some.ensures.found in
+    let is = rw c.in-Some.is at c.in_ok-perfect.ensures.found in
     let n = is.decomposes.cols_are ∙ upto_mapped (rows_given _ (g.N.NumberList.numbers c.args.starts) (g.N.NumberList.numbers c.args.ids)) (length (g.N.NumberList.numbers c.args.starts) - 1) in
     let test = c.if-column_order-saturating_sub.false in
     let sub = c.saturating_sub.ensures in
@@ -14,9 +14,9 @@ write-blocks-requires-clause-columns g c =
 
 pub write-blocks-requires-clause-starts : goal.write-blocks-requires-clause-starts
 write-blocks-requires-clause-starts g c =
-    let is = rw c.in-Ok-Some.field-0-is at c.in-Ok-Some.ensures.found in
+    let is = rw c.in-Some.is at c.in_ok-perfect.ensures.found in
     let n = is.decomposes.cols_are ∙ upto_mapped (rows_given _ (g.N.NumberList.numbers c.args.starts) (g.N.NumberList.numbers c.args.ids)) (length (g.N.NumberList.numbers c.args.starts) - 1) in
     let test = c.if-block_starts-len.false in
     let len = c.len-else-column_order-saturating_sub.ensures in
-    let one = c.in_default.ensures.columns.starts_are.one in
+    let one = c.in_ok-check_columns.ensures.columns.starts_are.one in
     omega (arith, n, test, len, one)
