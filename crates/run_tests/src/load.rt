@@ -66,7 +66,11 @@ fn is_summed<R: Threads + AllocGlobal + Sync>(rt: &R, words: &[&str], text: &[u8
 }
 
 /// Whether an engine gives a summary with each number of workers.
-fn is_given_by<R: Threads + AllocGlobal + Sync>(rt: &R, engine: &str, summary: &Summary) -> bool {
+fn is_given_by<R: Threads + AllocGlobal + Sync>(
+    rt: &R,
+    engine: &'static str,
+    summary: &Summary,
+) -> bool {
     for workers in &WORKERS {
         let words = [*workers, summary.seed, engine, summary.size];
         if !is_summed(rt, &words, summary.text) {
@@ -79,7 +83,7 @@ fn is_given_by<R: Threads + AllocGlobal + Sync>(rt: &R, engine: &str, summary: &
 /// Whether each engine gives a summary, and no choice at all.
 fn is_given<R: Threads + AllocGlobal + Sync>(rt: &R, summary: &Summary) -> bool {
     for engine in &ENGINES {
-        if !is_given_by(rt, engine, summary) {
+        if !is_given_by(rt, *engine, summary) {
             return false;
         }
     }
