@@ -17,8 +17,8 @@ use std::process::Abort;
 use std::thread::{Threads, join_mut};
 use test_gates::BarrierGate;
 
-// A step of a seat or a worker, with what it is told at last: who held the row, or which leaf the root
-// had. By none a claim or a win is its own.
+// A step of a seat or a worker, with what it learns at last: who held the row, or which leaf the
+// root had. By none a claim or a win is its own.
 #[derive(Clone, Copy)]
 enum Step {
     Claim(u32, u32, Option<u32>),
@@ -90,7 +90,7 @@ fn leaf_of(answer: Won) -> Option<u32> {
     }
 }
 
-// A seat makes a step, and is told what it is to be told.
+// A seat makes a step, and learns what it is to learn.
 fn make<R: Abort>(rt: &R, board: &ClaimBoard, seat: &mut ClaimSeat, step: Step)
     requires seat { seat.old.board ≡ board.now }
     requires words { (length board.now.rows ≡ 2) × (length board.now.roots ≡ 1) }
@@ -150,7 +150,7 @@ fn make_all<R: Abort>(
     }
 }
 
-// The closed board tells these holders of both rows.
+// The closed board gives these holders of both rows.
 fn are_held<R: Abort>(rt: &R, closed: &Closed, holders: (Option<u32>, Option<u32>))
     requires { length closed.now.rows ≡ 2 }
 {
@@ -158,7 +158,7 @@ fn are_held<R: Abort>(rt: &R, closed: &Closed, holders: (Option<u32>, Option<u32
     assert!(rt; (number_of(zero), number_of(one)) == holders);
 }
 
-// The steps are told what they are to be told, and then the closed board tells these holders of both
+// The steps learn what they are to learn, and then the closed board gives these holders of both
 // rows, and this leaf.
 fn goes<R: Abort + AllocGlobal>(
     rt: &R,
@@ -299,7 +299,7 @@ fn gather_for_two(
     Ok((zero, one))
 }
 
-// A worker makes a step, and is told what it is to be told.
+// A worker makes a step, and learns what it is to learn.
 fn work<R: Abort>(
     rt: &R,
     board: &ClaimBoard,

@@ -41,7 +41,7 @@ const PAIRS: [(u32, u32); 7] = [(1, 5), (2, 6), (3, 7), (4, 8), (5, 9), (6, 10),
 
 const COLS: u32 = 11;
 
-// The mates of the columns 1 to 11 at the end. Column 4 has none, which is told by 0.
+// The mates of the columns 1 to 11 at the end. Column 4 has none, which is written as 0.
 const MATES: [u32; 11] = [3, 2, 6, 0, 4, 8, 9, 5, 10, 1, 7];
 
 // Nine levels and two exchanges, in each of which each worker arrives once.

@@ -171,13 +171,13 @@ fn most_are_read(alloc: Global) -> bool {
     }
 }
 
-/// What is told of a batch with one file more.
+/// What is reported of a batch with one file too many.
 const ONE_MORE: BatchError = BatchError::Limit {
     file: 65537,
     kind: Kind::Files,
 };
 
-/// Whether a file more is told before its bytes are too many.
+/// Whether a file too many is reported before its bytes are too many.
 fn one_more_is_told(alloc: Global) -> bool {
     match most_frames(alloc, b"file 1073741825\n") {
         Err(_) => false,
@@ -191,8 +191,8 @@ fn files_are_limited_in_number(rt: HostRuntime) {
     assert!(rt; one_more_is_told(rt.alloc()));
 }
 
-/// Batches that come in pieces of seven bytes, the call that fails, and what is told: a bad frame
-/// where it had ended before that call.
+/// Batches that come in pieces of seven bytes, the call that fails, and what is reported: a bad
+/// frame where it had ended before that call.
 #[rattlefmt::skip]
 static FAILED: [(&[u8], u64, BatchError); 7] = [
     (b"file 1\nx", 0, BatchError::ReadFault),

@@ -153,7 +153,7 @@ impl Source for Reports {
     }
 }
 
-/// What is told of one edit line more than there may be.
+/// What is reported of one edit line too many.
 const ONE_MORE: ReadError = ReadError::Limit {
     line: 16_777_217,
     kind: Kind::Edits,

@@ -114,7 +114,7 @@ fn are_items(triples: &Triples, items: &[(u32, u32, i64)]) -> bool {
     triples.len() as usize == items.len()
 }
 
-/// Whether the entries are added to none, and are told again.
+/// Whether the entries are added to none, and are given again.
 fn are_kept(alloc: Global, additions: &Additions) -> bool {
     let (rows, cols) = additions.sizes;
     let Ok(mut triples) = Triples::new(alloc, rows, cols, additions.field) else {

@@ -46,8 +46,8 @@ const MALFORMED: Run = Run {
     ..ANSWERED
 };
 
-/// The 400,000,000 values are too many, and the line of a file with too few or with two on a line is
-/// told.
+/// The 400,000,000 values are too many, and the line of a file with too few or with two on a line
+/// is reported.
 #[rattlefmt::skip]
 static REFUSED: [Run; 5] = [
     Run {

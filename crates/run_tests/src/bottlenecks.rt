@@ -56,8 +56,8 @@ fn least_weights_that_are_greatest(rt: HostRuntime) {
     assert!(rt; all_go(&rt, &ANSWERS));
 }
 
-/// A dropped place is no entry. A sum past the limit is told before the shape, and another field
-/// before both.
+/// A dropped place is no entry. A sum past the limit is reported before the shape, and another
+/// field before both.
 #[rattlefmt::skip]
 static NO_BOTTLENECK: [Run; 4] = [
     Run {

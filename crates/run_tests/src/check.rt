@@ -263,7 +263,7 @@ fn reports_are_valid(rt: HostRuntime) {
 /// The lines of a report of one entry up to its rank.
 const CUT: &[u8] = b"btf 1\nmatrix 1 1 1\nrank 1\n";
 
-/// A bad line of the matrix is told, whatever follows. A read that fails behind the matrix is a
+/// A bad line of the matrix is reported, whatever follows. A read that fails behind the matrix is a
 /// fault, and so is a write.
 #[rattlefmt::skip]
 static REFUSED: [Run; 4] = [

@@ -8,13 +8,13 @@ use sp_ids::Status;
 use sp_ports::{NoGate, SteadySink, SteadySource};
 use std::thread::Threads;
 
-/// Whether one read failed, and nothing was written but the line that tells it.
+/// Whether one read failed, and nothing was written but the line that reports it.
 fn tells_a_fault(found: &Outcome) -> bool {
     found.is(Status::ReadFault, b"", b"btf: read fault\n")
         && found.devices.input.failed_calls() == 1
 }
 
-/// Whether a job whose read with this number fails tells it.
+/// Whether a job whose read with this number fails reports it.
 fn read_fails<R: Threads + AllocGlobal + Sync>(rt: &R, job: &str, call: u64) -> bool {
     let devices = Devices {
         failing_reads: &[call],
@@ -26,7 +26,7 @@ fn read_fails<R: Threads + AllocGlobal + Sync>(rt: &R, job: &str, call: u64) -> 
     }
 }
 
-/// Whether a job tells it whichever read fails: the 59 bytes come in six pieces, and call 6 tells
+/// Whether a job reports it whichever read fails: the 59 bytes come in six pieces, and call 6 finds
 /// the end.
 fn each_read_fails<R: Threads + AllocGlobal + Sync>(rt: &R, job: &str) -> bool {
     for call in 0u64..7 {
@@ -48,9 +48,9 @@ const BOTH: Run = Run {
     ..ANSWERED
 };
 
-/// A line is judged once its end was given. So the last line of 63 bytes, an entry line more than
-/// told, is told where call 63 fails, and not where call 62 does; an entry line is missing only at
-/// the end of the input, which a failed call is not.
+/// A line is judged once its end was given. So the last line of 63 bytes, an entry line too many, is
+/// reported where call 63 fails, and not where call 62 does; an entry line is missing only at the end
+/// of the input, which a failed call is not.
 #[rattlefmt::skip]
 static ENDS_OF_LINES: [Run; 4] = [
     Run {

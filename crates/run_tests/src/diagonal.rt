@@ -248,7 +248,7 @@ fn matrices_without_a_pair(rt: HostRuntime) {
     assert!(rt; all_go(&rt, &WITHOUT_A_PAIR));
 }
 
-/// A sum past the limit is told by the least column, then the least row; of a file that is no
+/// A sum past the limit is reported by the least column, then the least row; of a file that is no
 /// integer file no sums are made.
 #[rattlefmt::skip]
 static REFUSED: [Run; 4] = [

@@ -142,7 +142,7 @@ const NO_INTEGERS: Run = Run {
     ..ANSWERED
 };
 
-/// It is, whatever follows it; a bad line is told first.
+/// It is, whatever follows it; a bad line is reported first.
 #[rattlefmt::skip]
 static OTHER_FIELDS: [Run; 5] = [
     Run { file: &[SMALLEST], ..NO_INTEGERS },

@@ -63,8 +63,8 @@ static NO_REPORT: [Change; 8] = [
     Change { from: 16, to: 17, others: b"0 1\n" },
 ];
 
-/// Changes after which the pairs are no matching of entries. The first reason is told: in the last
-/// two the pairs are not maximum either, or the rank differs too.
+/// Changes after which the pairs are no matching of entries. The first reason is reported: in the
+/// last two the pairs are not maximum either, or the rank differs too.
 #[rattlefmt::skip]
 static NO_MATCHING: [Change; 5] = [
     // Row 4 has no entry there, row 9 is not in the matrix, and row 2 has two pairs.
@@ -327,7 +327,7 @@ fn other_pair(before_end: usize) -> Option<u8> {
     }
 }
 
-/// Whether these bytes are a report of the matrix, or are told to be none.
+/// Whether these bytes are a report of the matrix, or are refused as none.
 fn is_valid_or_not<R: Threads + AllocGlobal + Sync>(rt: &R, report: &[u8], valid: bool) -> bool {
     match judged(rt, report) {
         Err(_) => false,

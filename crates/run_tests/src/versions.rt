@@ -62,8 +62,8 @@ const CHECK: Run = Run {
     ..ANSWERED
 };
 
-/// Reports with these lines of the two horizontal components. Components are judged last. Lists that
-/// rise and have the lengths that are told are of the grammar, whatever stands in them.
+/// Reports with these lines of the two horizontal components. Components are judged last. Lists
+/// that rise and have the lengths that are written are of the grammar, whatever stands in them.
 #[rattlefmt::skip]
 static COMPONENTS: [Run; 10] = [
     Run {
