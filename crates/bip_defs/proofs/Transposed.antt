@@ -1,10 +1,11 @@
 -- The transpose: rows for columns, and what that makes of matchings and parts.
-use Rattle.std.proofs.Common.{◌≡◌, ◌∙◌, ℕ, zero, suc, ◌+◌, ◌<◌, Bool, true, List, [], ◌∷◌, length, nat_eq, slice_index_or, refl, sym, ap, subst, arith}
-use Rattle.std.proofs.lemmas.List.{get_or-map, length-map}
+use Rattle.std.proofs.Common.{◌≡◌, ◌∙◌, ℕ, zero, suc, ◌+◌, ◌<◌, ◌≤◌, Bool, true, List, [], ◌∷◌, length, nat_eq, slice_index_or, refl, sym, ap, subst, arith}
+use Rattle.std.proofs.Math.Decide.{dec_lt}
+use Rattle.std.proofs.lemmas.List.{get_or-map, get_or_past, length-map}
 use Rattle.std.specs.List.{list_any}
-use Rattle.bip_defs.specs.Lists.{Among, Lists}
+use Rattle.bip_defs.specs.Lists.{Among, IsRising, Lists}
 use Rattle.bip_defs.specs.Matching.{IsMatching, IsMaximum, cols_of, rows_of, transposed_places}
-use Rattle.bip_defs.specs.Matrix.{IsEntry, IsTransposeOf, Matrix, Place, column, cols, row_list, transpose, upto, upto_from}
+use Rattle.bip_defs.specs.Matrix.{HasPlaces, IsEntry, IsTransposeOf, Matrix, Place, column, cols, row_list, transpose, upto, upto_from}
 use Rattle.bip_defs.specs.Parts.{IsHorizontalCol, IsHorizontalRow, IsSquareCol, IsSquareRow, IsVerticalCol, IsVerticalRow, MarkHorizontalCols, MarkHorizontalRows, MarkVerticalCols, MarkVerticalRows}
 use Rattle.bip_defs.proofs.Sets.{among_map, among_test, entry_col, filter_lists, lists_same, upto_length}
 
@@ -72,6 +73,34 @@ turned_maximum a b m t max = record {
   matching = turned_matching a b m t max.matching;
   longest = λ other k. omega (arith, turned_length m, turned_length other, max.longest (transposed_places other) (turned_matching b a other (transpose_back a b t) k));
 }
+
+-- Places.
+
+-- the transpose has the places turned
+pub turned_places : (rows n : ℕ) (places : List Place) (a : Matrix) → HasPlaces rows n places a → HasPlaces n rows (transposed_places places) (transpose a)
+turned_places rows n places a h = record {
+  rows_are = h.cols_are;
+  cols_are = transpose_cols a ∙ h.rows_are;
+  entries = λ c r. (
+    λ e. turned_among r c places ((h.entries r c).0 (t.back r c e)),
+    λ k. t.over r c ((h.entries r c).1 (turned_back r c places k)),
+  );
+  columns = λ r. by r (dec_lt r a.rows);
+}
+  where
+    t : IsTransposeOf a (transpose a)
+    t = transpose_is a
+
+    by : (r : ℕ) → Dec (r < a.rows) → Lists (λ c. IsEntry (transpose a) c r) (column (transpose a) r)
+    by r (yes lt) = subst (Lists (λ c. IsEntry (transpose a) c r)) (sym (transpose_column a r lt))
+        (lists_same (λ c. IsEntry a r c) (λ c. IsEntry (transpose a) c r) (row_list a r) (λ c e. t.over r c e) (λ c e. t.back r c e) (row_list_lists a r lt))
+    by r (no nlt) =
+        let past : column (transpose a) r ≡ [] = get_or_past (transpose a).columns r [] (rw transpose_cols (omega arith)) in
+        record {
+          rising = subst IsRising (sym past) tt;
+          sound = λ c m. absurd (subst (Among c) past m);
+          complete = λ c e. e.1;
+        }
 
 -- Parts.
 

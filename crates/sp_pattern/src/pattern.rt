@@ -216,7 +216,7 @@ impl Pattern {
     }
 
     // The pattern of an order by rows.
-    fn from_row_order(
+    pub(crate) fn from_row_order(
         alloc: Global,
         rows: u32,
         cols: u32,
