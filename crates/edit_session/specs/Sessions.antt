@@ -2,7 +2,7 @@
 use Rattle.std.specs.Prelude.{◌≡◌, ◌⊎◌, ◌↔◌, ℕ, Bool, List, length}
 use Rattle.bip_defs.specs.EditedMatrix.{without_place}
 use Rattle.bip_defs.specs.Lists.{Among, IsMarked}
-use Rattle.bip_defs.specs.Matching.{cols_of, rows_of}
+use Rattle.bip_defs.specs.Matching.{IsMaximum, cols_of, rows_of}
 use Rattle.bip_defs.specs.Matrix.{IsEntry, Matrix, Place, cols, transpose}
 use Rattle.bip_defs.specs.Paths.{IsParted}
 use Rattle.bip_graph.specs.Matching.{IsMatchingOf, IsMaximumOf, Pairing}
@@ -59,6 +59,7 @@ pub record IsNewEntry (p : Place) (a b : Matrix) (m : Pairing) (marks : List Boo
   pub entry : IsEntry a p.0 p.1
   pub matching : IsMatchingOf a m
   pub rows : b ≡ transpose a
+  pub maximum : IsMaximum (without_place a p) m.pairs
   pub cover : IsCover (without_place a p) m.pairs marks
 
 -- what the search makes of the other pairs, where the entry p that is cleared was a pair

@@ -46,7 +46,10 @@ impl Neighbours for Columns {
         self.rows
     }
 
-    fn cols(&self) -> u32 {
+    fn cols(&self) -> u32
+        ensures count { result ≡ cols self.now.matrix }
+        ensures pattern { IsPattern self.now.matrix }
+    {
         self.lists.len() as u32
     }
 
@@ -66,9 +69,9 @@ impl Columns {
         neighbours: &N,
         entries: u32,
     ) -> Result<Columns, OutOfMemory>
-        requires pattern { IsPattern (N.matrix neighbours.now) }
-        requires entries { entry_count (N.matrix neighbours.now) ≡ entries }
-        ensures { IfOk result (λ s. s.matrix ≡ N.matrix neighbours.now) }
+        requires { entry_count (N.matrix neighbours.now) ≡ entries }
+        ensures matrix { IfOk result (λ s. s.matrix ≡ N.matrix neighbours.now) }
+        ensures pattern { IfOk result (λ s. IsPattern s.matrix) }
     {
         let mut lists = no_lists(alloc, neighbours.cols(), entries)?;
         for col in 0..neighbours.cols() {
@@ -86,9 +89,9 @@ impl Columns {
     /// Returns `OutOfMemory` if 16 bytes a row, 4.25 an entry and a list of the longest row
     /// cannot be allocated. Work: one copy of the lists.
     pub fn of_rows(alloc: Global, pattern: &Pattern) -> Result<Columns, OutOfMemory>
+        requires { IsPattern pattern.now }
         ensures { IfOk result (λ s. s.matrix ≡ transpose pattern.now) }
     {
-        pattern.is_pattern();
         let entries = pattern.entries();
         let mut lists = no_lists(alloc, pattern.rows(), entries)?;
         let mut list = Vec::new(alloc);
@@ -103,14 +106,6 @@ impl Columns {
         })
     }
 
-    /// Its sizes fit 32 bits, and each column's list is the rising one of its entries: a fact for
-    /// proofs, at no cost.
-    pub fn is_pattern(&self)
-        ensures { IsPattern self.now.matrix }
-    {
-        let _entries = self.entries;
-    }
-
     /// The number of entries.
     pub fn entries(&self) -> u32
         ensures { result ≡ entry_count self.now.matrix }
@@ -120,7 +115,8 @@ impl Columns {
 
     /// Whether a place is an entry. Any row and column may be asked for.
     pub fn has(&self, row: Row, col: Col) -> bool
-        ensures { IsTrue result ↔ IsEntry self.now.matrix row col }
+        ensures entry { IsTrue result ↔ IsEntry self.now.matrix row col }
+        ensures pattern { IsPattern self.now.matrix }
     {
         col.0 < self.cols() && self.find(row, col).is_ok()
     }
@@ -164,7 +160,6 @@ impl Columns {
     fn pack(&mut self, alloc: Global) -> Result<(), OutOfMemory>
         ensures matrix { self.new.matrix ≡ self.old.matrix }
     {
-        self.is_pattern();
         let packed = Columns::of(alloc, self, self.entries())?;
         self.lists = packed.lists;
         Ok(())
@@ -191,6 +186,7 @@ impl Columns {
         requires col { col < cols self.old.matrix }
         ensures matrix { self.new.matrix ≡ without_place self.old.matrix (row, col) }
         ensures room { IsEntry self.old.matrix row col → HasRoom self.new col }
+        ensures pattern { IsPattern self.old.matrix }
     {
         if let Ok(at) = self.find(row, col) {
             self.lists.remove(col.0 as usize, at);

@@ -3,8 +3,8 @@
 ghost use Rattle.std.specs.Prelude.{◌≡◌, ◌↔◌, ◌+◌, ◌<◌, ◌≤◌, length, IfOk, IsTrue, OnErr, OnOk, is_ok};
 ghost use Rattle.bip_defs.specs.ConnectedComponents.{AreConnectedComponents};
 ghost use Rattle.bip_defs.specs.EditedMatrix.{with_place, without_place};
-ghost use Rattle.bip_defs.specs.Lists.{Among};
-ghost use Rattle.bip_defs.specs.Matching.{IsRank};
+ghost use Rattle.bip_defs.specs.Lists.{Among, AreDistinct};
+ghost use Rattle.bip_defs.specs.Matching.{IsRank, cols_of};
 ghost use Rattle.bip_defs.specs.Matrix.{IsEntry, cols, entry_count};
 ghost use Rattle.bip_graph.specs.Decompositions.{Decomposes, components_of};
 ghost use Rattle.bip_graph.specs.Matching.{IsMaximumOf};
@@ -24,7 +24,7 @@ use std::alloc::Global;
 use std::marker::Model;
 use std::sync::ledger::Ledger;
 use std::thread::Threads;
-use vertex_cover::{Cover, cover_shows_maximum, cover_stands};
+use vertex_cover::Cover;
 
 /// A session of edits: a matrix whose entries are set and cleared one by one, and a maximum
 /// matching of it, which each edit keeps maximum.
@@ -66,7 +66,6 @@ impl Session {
         ensures matrix { IfOk result (λ s. s.matrix ≡ pattern.now) }
         ensures matching { IfOk result (λ s. s.matching ≡ matching) }
     {
-        pattern.is_pattern();
         let columns = Columns::of(alloc, pattern, pattern.entries())?;
         let rows = Columns::of_rows(alloc, pattern)?;
         let cover = Cover::of(alloc, pattern, &matching)?;
@@ -188,8 +187,6 @@ impl Session {
         ensures no_search { NeedsNoSearch (row, col) self.old → steps.new ≡ steps.old }
         ensures searched { OnOk result (Searches (row, col) self.old self.new steps.old steps.new) }
     {
-        self.columns.is_pattern();
-        self.rows.is_pattern();
         if self.columns.has(row, col) {
             return Ok(self.rank());
         }
@@ -234,7 +231,6 @@ impl Session {
         if self.columns.has(row, col) {
             return self.clear_entry(row, col, steps);
         }
-        self.columns.is_pattern();
         Ok(self.rank())
     }
 
@@ -256,10 +252,6 @@ impl Session {
         ensures searched { OnOk result
             (ClearSearches (row, col) self.old self.new steps.old steps.new) }
     {
-        cover_shows_maximum();
-        cover_stands();
-        self.matching.is_matching();
-        self.columns.is_pattern();
         let were_mates = are_mates(&self.matching, row, col);
         self.columns.take(row, col);
         self.rows.take(Row(col.0), Col(row.0));
@@ -267,7 +259,6 @@ impl Session {
             return Ok(self.rank());
         }
         self.matching.unpair(row, col);
-        self.matching.is_matching();
         self.cover.add_root(col);
         let columns = &self.columns;
         let matching = &mut self.matching;
@@ -283,10 +274,10 @@ impl Session {
 
 // Whether a row and a column are a pair.
 fn are_mates(matching: &Matching, row: Row, col: Col) -> bool
-    requires { col < matching.now.cols }
+    requires col { col < matching.now.cols }
+    requires cols_differ { AreDistinct (cols_of matching.now.pairs) }
     ensures { IsTrue result ↔ Among (row, col) matching.now.pairs }
 {
-    matching.is_matching();
     match matching.row_of(col) {
         Some(mate) => mate.0 == row.0,
         None => false,
@@ -317,9 +308,6 @@ fn match_entry<L: Ledger>(
         → SearchesFor (row, col) columns.now.matrix matching.old.pairs cover.old
         matching.new.pairs cover.new steps.old steps.new }
 {
-    cover_shows_maximum();
-    cover_stands();
-    columns.is_pattern();
     if cover.has(matching, row, col) {
         return;
     }
@@ -345,5 +333,4 @@ fn match_entry<L: Ledger>(
         return;
     }
     matching.pair(row, col);
-    matching.is_matching();
 }

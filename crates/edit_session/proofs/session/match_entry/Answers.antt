@@ -6,45 +6,45 @@ use Rattle.bip_defs.proofs.Sets.{col_among, row_among}
 use Rattle.bip_defs.proofs.Transposed.{transpose_is}
 use Rattle.bip_defs.proofs.Results.{some_found}
 use Rattle.vertex_cover.specs.Back.{IsSearchedTo}
-use Rattle.edit_session.proofs.SessionLemmas.{had_kept, more_columns, none_found, over_kept, paired_kept, searched_kept, set_but}
+use Rattle.edit_session.proofs.SessionLemmas.{more_columns, none_found, paired_kept, set_but, shown_kept}
 use Rattle.edit_session.proofs.TransposeLemmas.{transpose_count}
 use Rattle.edit_session.proofs.session.match_entry.Goals as goal
 
 pub returns-then-has-clause-kept : goal.returns-then-has-clause-kept
-returns-then-has-clause-kept g c = had_kept c.args.columns.now.matrix c.args.rows.now.matrix (c.args.row, c.args.col) c.args.matching.now c.args.cover.now c.cover_shows_maximum.ensures c.requires.matching c.requires.rows c.requires.cover (c.has.ensures.0 c.if-has.true)
+returns-then-has-clause-kept g c = shown_kept c.args.columns.now.matrix c.args.rows.now.matrix c.args.matching.now c.args.cover.now (c.has.ensures.all c.if-has.true c.args.columns.now.matrix c.requires.matching c.requires.cover) c.requires.rows
 
 pub augment_to-requires-clause-turned : goal.augment_to-requires-clause-turned
 augment_to-requires-clause-turned g c = record {
   transpose = subst (λ (b : Matrix). IsTransposeOf c.args.columns.now.matrix b) (sym c.requires.rows) (transpose_is c.args.columns.now.matrix);
-  count = ap entry_count c.requires.rows ∙ transpose_count c.args.columns.now.matrix c.is_pattern.ensures.columns;
+  count = ap entry_count c.requires.rows ∙ transpose_count c.args.columns.now.matrix c.cols.ensures.pattern.columns;
 }
 
 pub augment_to-requires-clause-unmatched : goal.augment_to-requires-clause-unmatched
-augment_to-requires-clause-unmatched g c = more_columns c.args.columns.now.matrix c.args.matching.now.pairs c.requires.matching.matching (λ e. c.if-size-cols.false (c.size-2.ensures.size ∙ e ∙ sym c.cols.ensures))
+augment_to-requires-clause-unmatched g c = more_columns c.args.columns.now.matrix c.args.matching.now.pairs c.requires.matching.matching (λ e. c.if-size-cols.false (c.size-2.ensures.size ∙ e ∙ sym c.cols.ensures.count))
 
 pub augment_to-requires-clause-cover : goal.augment_to-requires-clause-cover
-augment_to-requires-clause-cover g c = c.cover_stands.ensures.but_row c.args.columns.now.matrix (c.args.row, c.args.col) c.args.matching.now.pairs c.args.cover.now c.requires.cover
+augment_to-requires-clause-cover g c = (set_but c.args.columns.now.matrix (c.args.row, c.args.col) c.args.matching.now.pairs c.args.cover.now c.requires.cover).1
 
 pub returns-then-row_is_free-clause-kept : goal.returns-then-row_is_free-clause-kept
-returns-then-row_is_free-clause-kept g c = searched_kept c.args.columns.now.matrix c.args.rows.now.matrix (c.args.row, c.args.col) c.args.matching.now c.augment_to.new.matching c.args.cover.now c.augment_to.new.self c.cover_shows_maximum.ensures c.cover_stands.ensures.longer c.requires.rows c.requires.cover c.augment_to.ensures.decided.matching c.augment_to.ensures.decided.cover
+returns-then-row_is_free-clause-kept g c = shown_kept c.args.columns.now.matrix c.args.rows.now.matrix c.augment_to.new.matching c.augment_to.new.self (c.augment_to.ensures.decided.but_one (c.args.row, c.args.col) c.requires.cover) c.requires.rows
 
 pub returns-else-row_is_free-clause-kept : goal.returns-else-row_is_free-clause-kept
-returns-else-row_is_free-clause-kept g c = over_kept c.args.columns.now.matrix c.args.rows.now.matrix (c.args.row, c.args.col) c.args.matching.now c.augment_over.new.matching c.args.cover.now c.augment_over.new.self c.cover_shows_maximum.ensures c.cover_stands.ensures.longer c.requires.rows c.requires.cover c.augment_over.ensures.decided.matching c.augment_over.ensures.decided.cover
+returns-else-row_is_free-clause-kept g c = shown_kept c.args.columns.now.matrix c.args.rows.now.matrix c.augment_over.new.matching c.augment_over.new.self c.augment_over.ensures.decided.has_cover c.requires.rows
 
 pub augment_from-requires-clause-cover : goal.augment_from-requires-clause-cover
-augment_from-requires-clause-cover g c = set_but c.args.columns.now.matrix (c.args.row, c.args.col) c.args.matching.now.pairs c.args.cover.now c.requires.cover
+augment_from-requires-clause-cover g c = (set_but c.args.columns.now.matrix (c.args.row, c.args.col) c.args.matching.now.pairs c.args.cover.now c.requires.cover).0
 
 pub returns-then-not-row_is_free-clause-kept : goal.returns-then-not-row_is_free-clause-kept
-returns-then-not-row_is_free-clause-kept g c = searched_kept c.args.columns.now.matrix c.args.rows.now.matrix (c.args.row, c.args.col) c.args.matching.now c.augment_from.new.matching c.args.cover.now c.augment_from.new.self c.cover_shows_maximum.ensures c.cover_stands.ensures.longer c.requires.rows c.requires.cover c.augment_from.ensures.decided.matching c.augment_from.ensures.decided.cover
+returns-then-not-row_is_free-clause-kept g c = shown_kept c.args.columns.now.matrix c.args.rows.now.matrix c.augment_from.new.matching c.augment_from.new.self (c.augment_from.ensures.decided.but_one (c.args.row, c.args.col) c.requires.cover) c.requires.rows
 
 pub returns-clause-kept : goal.returns-clause-kept
-returns-clause-kept g c = paired_kept c.args.columns.now.matrix c.args.rows.now.matrix (c.args.row, c.args.col) c.args.matching.now c.pair.new.self c.args.cover.now c.cover_shows_maximum.ensures c.requires.matching c.requires.entry c.requires.rows c.requires.cover c.pair.ensures.added c.pair.ensures.sizes c.is_matching.ensures.rows_differ c.is_matching.ensures.cols_rise
+returns-clause-kept g c = paired_kept c.args.columns.now.matrix c.args.rows.now.matrix (c.args.row, c.args.col) c.args.matching.now c.pair.new.self c.args.cover.now c.requires c.pair.ensures.added c.pair.ensures.size c.pair.ensures.sizes c.pair.ensures.pairing
 
 pub augment_over-requires-clause-matched : goal.augment_over-requires-clause-matched
 augment_over-requires-clause-matched g c = let (d, pair) = some_found (λ x. Among {X = Place} (c.args.row, x) c.args.matching.now.pairs) c.col_of.result c.if-row_is_free.ensures c.col_of.ensures.found in row_among c.args.row d c.args.matching.now.pairs pair
 
 pub augment_over-requires-clause-uncovered : goal.augment_over-requires-clause-uncovered
-augment_over-requires-clause-uncovered g c h = true≢false (sym (c.has.ensures.1 (inr h)) ∙ c.if-has.false)
+augment_over-requires-clause-uncovered g c h = true≢false (sym (c.has.ensures.covered.1 (inr h)) ∙ c.if-has.false)
 
 pub returns-then-has-clause-no_search : goal.returns-then-has-clause-no_search
 returns-then-has-clause-no_search g c = λ h. refl
@@ -56,25 +56,25 @@ pub returns-then-size-cols-clause-no_search : goal.returns-then-size-cols-clause
 returns-then-size-cols-clause-no_search g c = λ h. refl
 
 pub returns-then-row_is_free-clause-no_search : goal.returns-then-row_is_free-clause-no_search
-returns-then-row_is_free-clause-no_search g c = λ h. absurd (⊎_elim (⊎_elim (λ e. c.if-size-rows.false (c.size.ensures.size ∙ e ∙ sym c.rows.ensures)) (λ e. c.if-size-cols.false (c.size-2.ensures.size ∙ e ∙ sym c.cols.ensures))) (λ covered. true≢false (sym (c.has.ensures.1 covered) ∙ c.if-has.false)) h)
+returns-then-row_is_free-clause-no_search g c = λ h. absurd (⊎_elim (⊎_elim (λ e. c.if-size-rows.false (c.size.ensures.size ∙ e ∙ sym c.rows.ensures)) (λ e. c.if-size-cols.false (c.size-2.ensures.size ∙ e ∙ sym c.cols.ensures.count))) (λ covered. true≢false (sym (c.has.ensures.covered.1 covered) ∙ c.if-has.false)) h)
 
 pub returns-else-row_is_free-clause-no_search : goal.returns-else-row_is_free-clause-no_search
-returns-else-row_is_free-clause-no_search g c = λ h. absurd (⊎_elim (⊎_elim (λ e. c.if-size-rows.false (c.size.ensures.size ∙ e ∙ sym c.rows.ensures)) (λ e. c.if-size-cols.false (c.size-2.ensures.size ∙ e ∙ sym c.cols.ensures))) (λ covered. true≢false (sym (c.has.ensures.1 covered) ∙ c.if-has.false)) h)
+returns-else-row_is_free-clause-no_search g c = λ h. absurd (⊎_elim (⊎_elim (λ e. c.if-size-rows.false (c.size.ensures.size ∙ e ∙ sym c.rows.ensures)) (λ e. c.if-size-cols.false (c.size-2.ensures.size ∙ e ∙ sym c.cols.ensures.count))) (λ covered. true≢false (sym (c.has.ensures.covered.1 covered) ∙ c.if-has.false)) h)
 
 pub returns-then-not-row_is_free-clause-no_search : goal.returns-then-not-row_is_free-clause-no_search
-returns-then-not-row_is_free-clause-no_search g c = λ h. absurd (⊎_elim (⊎_elim (λ e. c.if-size-rows.false (c.size.ensures.size ∙ e ∙ sym c.rows.ensures)) (λ e. c.if-size-cols.false (c.size-2.ensures.size ∙ e ∙ sym c.cols.ensures))) (λ covered. true≢false (sym (c.has.ensures.1 covered) ∙ c.if-has.false)) h)
+returns-then-not-row_is_free-clause-no_search g c = λ h. absurd (⊎_elim (⊎_elim (λ e. c.if-size-rows.false (c.size.ensures.size ∙ e ∙ sym c.rows.ensures)) (λ e. c.if-size-cols.false (c.size-2.ensures.size ∙ e ∙ sym c.cols.ensures.count))) (λ covered. true≢false (sym (c.has.ensures.covered.1 covered) ∙ c.if-has.false)) h)
 
 pub returns-clause-no_search : goal.returns-clause-no_search
-returns-clause-no_search g c = λ h. absurd (⊎_elim (⊎_elim (λ e. c.if-size-rows.false (c.size.ensures.size ∙ e ∙ sym c.rows.ensures)) (λ e. c.if-size-cols.false (c.size-2.ensures.size ∙ e ∙ sym c.cols.ensures))) (λ covered. true≢false (sym (c.has.ensures.1 covered) ∙ c.if-has.false)) h)
+returns-clause-no_search g c = λ h. absurd (⊎_elim (⊎_elim (λ e. c.if-size-rows.false (c.size.ensures.size ∙ e ∙ sym c.rows.ensures)) (λ e. c.if-size-cols.false (c.size-2.ensures.size ∙ e ∙ sym c.cols.ensures.count))) (λ covered. true≢false (sym (c.has.ensures.covered.1 covered) ∙ c.if-has.false)) h)
 
 pub returns-then-has-clause-searched : goal.returns-then-has-clause-searched
-returns-then-has-clause-searched g c unsettled = absurd (unsettled (inr (c.has.ensures.0 c.if-has.true)))
+returns-then-has-clause-searched g c unsettled = absurd (unsettled (inr (c.has.ensures.covered.0 c.if-has.true)))
 
 pub returns-then-size-rows-clause-searched : goal.returns-then-size-rows-clause-searched
 returns-then-size-rows-clause-searched g c unsettled = absurd (unsettled (inl (inl (sym c.size.ensures.size ∙ c.if-size-rows.true ∙ c.rows.ensures))))
 
 pub returns-then-size-cols-clause-searched : goal.returns-then-size-cols-clause-searched
-returns-then-size-cols-clause-searched g c unsettled = absurd (unsettled (inl (inr (sym c.size-2.ensures.size ∙ c.if-size-cols.true ∙ c.cols.ensures))))
+returns-then-size-cols-clause-searched g c unsettled = absurd (unsettled (inl (inr (sym c.size-2.ensures.size ∙ c.if-size-cols.true ∙ c.cols.ensures.count))))
 
 pub returns-then-row_is_free-clause-searched : goal.returns-then-row_is_free-clause-searched
 returns-then-row_is_free-clause-searched g c unsettled =

@@ -8,7 +8,7 @@ use Rattle.bip_defs.proofs.Transposed.{transpose_is}
 use Rattle.bip_graph.specs.Matching.{IsMatchingOf}
 use Rattle.vertex_cover.specs.Back.{IsCoverButRow, IsSearchedTo}
 use Rattle.vertex_cover.specs.Covers.{IsCover, IsCoverBut, IsSearchedFrom}
-use Rattle.edit_session.specs.Sessions.{IsKept, MatchedMatrix}
+use Rattle.edit_session.specs.Sessions.{MatchedMatrix}
 use Rattle.edit_session.proofs.SessionLemmas.{cleared_but, cleared_but_row, cleared_count, cleared_rows, cleared_steps, left_kept, parted_kept, parted_matching, parted_unmatched}
 use Rattle.edit_session.proofs.TransposeLemmas.{turned_within}
 use Rattle.edit_session.proofs.session.Session.clear_entry.Goals as goal
@@ -29,7 +29,7 @@ augment_from-requires-clause-free g c = parted_col_free (c.args.row, c.args.col)
 
 pub augment_from-requires-clause-matching : goal.augment_from-requires-clause-matching
 augment_from-requires-clause-matching g c = subst (λ (a : Matrix). IsMatchingOf a c.unpair.new.self) (sym c.take.ensures.matrix)
-    (parted_matching c.self.inside.columns.matrix (c.args.row, c.args.col) c.self.inside.matching c.unpair.new.self c.self.invariant.maximum.matching c.unpair.ensures.pairs c.unpair.ensures.sizes c.is_matching-2.ensures.rows_differ c.is_matching-2.ensures.cols_rise)
+    (parted_matching c.self.inside.columns.matrix (c.args.row, c.args.col) c.self.inside.matching c.unpair.new.self c.self.invariant.maximum.matching c.unpair.ensures.pairs c.unpair.ensures.sizes c.unpair.ensures.pairing)
 
 pub augment_from-requires-clause-cover : goal.augment_from-requires-clause-cover
 augment_from-requires-clause-cover g c = subst (λ (a : Matrix). IsCoverBut c.args.col a c.unpair.new.self.pairs c.add_root.new.self) (sym c.take.ensures.matrix)
@@ -38,12 +38,12 @@ augment_from-requires-clause-cover g c = subst (λ (a : Matrix). IsCoverBut c.ar
 pub invariant_of-self-then-not-is_marked : goal.invariant_of-self-then-not-is_marked
 invariant_of-self-then-not-is_marked g c =
     let turned : c.take-2.new.self.matrix ≡ without_place c.self.inside.rows.matrix (c.args.col, c.args.row) = rw c.row.view_is at (rw c.col.view_is at c.take-2.ensures.matrix) in
-    parted_kept c.self.inside.columns.matrix c.self.inside.rows.matrix c.take.new.self.matrix c.take-2.new.self.matrix (c.args.row, c.args.col) c.self.inside.matching c.unpair.new.self c.augment_from.new.matching c.add_root.new.self c.augment_from.new.self c.cover_shows_maximum.ensures c.cover_stands.ensures.as_long (subst (IsKept c.self.inside.columns.matrix c.self.inside.rows.matrix c.self.inside.matching) (sym c.add_root.ensures) c.self.invariant) c.take.ensures.matrix turned c.unpair.ensures.size c.augment_from.ensures.decided.matching c.augment_from.ensures.decided.cover
+    parted_kept c.self.inside.columns.matrix c.self.inside.rows.matrix c.take.new.self.matrix c.take-2.new.self.matrix (c.args.row, c.args.col) c.self.inside.matching c.unpair.new.self c.augment_from.new.matching c.self.inside.cover c.add_root.new.self c.augment_from.new.self _ _ c.self.invariant c.add_root.ensures c.take.ensures.matrix turned c.unpair.ensures.size c.augment_from.ensures.decided
 
 pub returns-then-not-is_marked-clause-steps : goal.returns-then-not-is_marked-clause-steps
 returns-then-not-is_marked-clause-steps g c =
     let entry : IsEntry c.self.inside.columns.matrix c.args.row c.args.col = subst (λ (w : MatchedMatrix). IsEntry w.matrix c.args.row c.args.col) (sym c.self.view_is) c.requires.entry in
-    cleared_steps c.self.inside.columns.matrix c.take.new.self.matrix c.self.inside.matching c.self.inside.cover (c.args.row, c.args.col) c.args.self.now c.args.steps.now c.augment_from.new.steps c.self.view_is c.take.ensures.matrix c.is_pattern.ensures entry c.augment_from.ensures.decided.steps
+    cleared_steps c.self.inside.columns.matrix c.take.new.self.matrix c.self.inside.matching c.self.inside.cover (c.args.row, c.args.col) c.args.self.now c.args.steps.now c.augment_from.new.steps c.self.view_is c.take.ensures.matrix c.take.ensures.pattern entry c.augment_from.ensures.decided.steps
 
 pub augment_to-requires-clause-free : goal.augment_to-requires-clause-free
 augment_to-requires-clause-free g c = parted_row_free (c.args.row, c.args.col) c.self.inside.matching.pairs c.unpair.new.self.pairs c.unpair.ensures.pairs
@@ -54,7 +54,7 @@ augment_to-requires-clause-turned g c =
     let rows = cleared_rows c.self.inside.columns.matrix c.take.new.self.matrix c.self.inside.rows.matrix c.take-2.new.self.matrix (c.args.row, c.args.col) c.take.ensures.matrix c.self.invariant.rows turned in
     record {
       transpose = subst (λ (b : Matrix). IsTransposeOf c.take.new.self.matrix b) (sym rows) (transpose_is c.take.new.self.matrix);
-      count = cleared_count c.self.inside.columns.matrix c.take.new.self.matrix c.take-2.new.self.matrix (c.args.row, c.args.col) c.take.ensures.matrix c.is_pattern.ensures rows;
+      count = cleared_count c.self.inside.columns.matrix c.take.new.self.matrix c.take-2.new.self.matrix (c.args.row, c.args.col) c.take.ensures.matrix c.take.ensures.pattern rows;
     }
 
 pub augment_to-requires-clause-unmatched : goal.augment_to-requires-clause-unmatched
@@ -62,7 +62,7 @@ augment_to-requires-clause-unmatched g c = subst (λ (a : Matrix). length c.unpa
 
 pub augment_to-requires-clause-matching : goal.augment_to-requires-clause-matching
 augment_to-requires-clause-matching g c = subst (λ (a : Matrix). IsMatchingOf a c.unpair.new.self) (sym c.take.ensures.matrix)
-    (parted_matching c.self.inside.columns.matrix (c.args.row, c.args.col) c.self.inside.matching c.unpair.new.self c.self.invariant.maximum.matching c.unpair.ensures.pairs c.unpair.ensures.sizes c.is_matching-2.ensures.rows_differ c.is_matching-2.ensures.cols_rise)
+    (parted_matching c.self.inside.columns.matrix (c.args.row, c.args.col) c.self.inside.matching c.unpair.new.self c.self.invariant.maximum.matching c.unpair.ensures.pairs c.unpair.ensures.sizes c.unpair.ensures.pairing)
 
 pub augment_to-requires-clause-cover : goal.augment_to-requires-clause-cover
 augment_to-requires-clause-cover g c = subst (λ (a : Matrix). IsCoverButRow c.args.row a c.unpair.new.self.pairs c.add_root.new.self) (sym c.take.ensures.matrix)
@@ -71,12 +71,12 @@ augment_to-requires-clause-cover g c = subst (λ (a : Matrix). IsCoverButRow c.a
 pub invariant_of-self-2 : goal.invariant_of-self-2
 invariant_of-self-2 g c =
     let turned : c.take-2.new.self.matrix ≡ without_place c.self.inside.rows.matrix (c.args.col, c.args.row) = rw c.row.view_is at (rw c.col.view_is at c.take-2.ensures.matrix) in
-    parted_kept c.self.inside.columns.matrix c.self.inside.rows.matrix c.take.new.self.matrix c.take-2.new.self.matrix (c.args.row, c.args.col) c.self.inside.matching c.unpair.new.self c.augment_to.new.matching c.add_root.new.self c.augment_to.new.self c.cover_shows_maximum.ensures c.cover_stands.ensures.as_long (subst (IsKept c.self.inside.columns.matrix c.self.inside.rows.matrix c.self.inside.matching) (sym c.add_root.ensures) c.self.invariant) c.take.ensures.matrix turned c.unpair.ensures.size c.augment_to.ensures.decided.matching c.augment_to.ensures.decided.cover
+    parted_kept c.self.inside.columns.matrix c.self.inside.rows.matrix c.take.new.self.matrix c.take-2.new.self.matrix (c.args.row, c.args.col) c.self.inside.matching c.unpair.new.self c.augment_to.new.matching c.self.inside.cover c.add_root.new.self c.augment_to.new.self _ _ c.self.invariant c.add_root.ensures c.take.ensures.matrix turned c.unpair.ensures.size c.augment_to.ensures.decided
 
 pub returns-clause-steps : goal.returns-clause-steps
 returns-clause-steps g c =
     let entry : IsEntry c.self.inside.columns.matrix c.args.row c.args.col = subst (λ (w : MatchedMatrix). IsEntry w.matrix c.args.row c.args.col) (sym c.self.view_is) c.requires.entry in
-    cleared_steps c.self.inside.columns.matrix c.take.new.self.matrix c.self.inside.matching c.self.inside.cover (c.args.row, c.args.col) c.args.self.now c.args.steps.now c.augment_to.new.steps c.self.view_is c.take.ensures.matrix c.is_pattern.ensures entry c.augment_to.ensures.decided.steps
+    cleared_steps c.self.inside.columns.matrix c.take.new.self.matrix c.self.inside.matching c.self.inside.cover (c.args.row, c.args.col) c.args.self.now c.args.steps.now c.augment_to.new.steps c.self.view_is c.take.ensures.matrix c.take.ensures.pattern entry c.augment_to.ensures.decided.steps
 
 pub returns-then-not-were_mates-clause-no_step : goal.returns-then-not-were_mates-clause-no_step
 returns-then-not-were_mates-clause-no_step g c = λ h. refl
@@ -113,3 +113,6 @@ returns-then-not-were_mates-clause-searched g c = record {
   to = λ h on. absurd (true≢false (sym (c.are_mates-were_mates.ensures.1 (subst (λ (w : MatchedMatrix). Among {X = Place} (c.args.row, c.args.col) w.matching.pairs) (sym c.self.view_is) h)) ∙ c.if-not-were_mates.true));
   from = λ h off. absurd (true≢false (sym (c.are_mates-were_mates.ensures.1 (subst (λ (w : MatchedMatrix). Among {X = Place} (c.args.row, c.args.col) w.matching.pairs) (sym c.self.view_is) h)) ∙ c.if-not-were_mates.true));
 }
+
+pub are_mates-were_mates-requires-clause-cols_differ : goal.are_mates-were_mates-requires-clause-cols_differ
+are_mates-were_mates-requires-clause-cols_differ g c = c.self.invariant.maximum.matching.matching.cols_differ
