@@ -16,7 +16,7 @@ use Rattle.bip_graph.specs.Matching.{IsMatchingOf, IsMaximumOf, IsPairing, Pairi
 use Rattle.vertex_cover.specs.Back.{IsCoverButRow}
 use Rattle.vertex_cover.specs.Covers.{Decides, HasCover, HasMarkedMate, IsCover, IsCoverBut}
 use Rattle.sp_pattern.specs.Stored.{IsPattern}
-use Rattle.edit_session.specs.Sessions.{IsKept, IsNewEntry, IsSaturating, MatchedMatrix}
+use Rattle.edit_session.specs.Sessions.{IsKept, IsNewEntry, IsSaturating, MatchedMatrix, matched}
 use Rattle.edit_session.proofs.TransposeLemmas.{transpose_count, transpose_counted, with_transpose, without_transpose}
 
 -- Pairs.
@@ -52,9 +52,6 @@ paired_matching a m n p k e added rows rising = record {
 }
 
 -- The cover.
-
-abbrev pub matched : Matrix → Pairing → List Bool → MatchedMatrix
-matched a m marks = record { matrix = a; matching = m; marks = marks }
 
 width : (b : Matrix) (p : Place) → cols (without_place b p) ≡ cols b
 width b p = length-set b.columns p.1 _

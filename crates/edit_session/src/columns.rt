@@ -13,11 +13,11 @@ use sp_pattern::{Neighbours, Pattern};
 use std::alloc::Global;
 use std::marker::Model;
 
-/// For each column of a matrix the rows of its entries, rising, which are put in and taken out one
+/// For each column of a matrix the rows of its entries, rising. Entries are inserted and removed one
 /// by one.
 ///
-/// All lists lie in one array, each with room to grow. It keeps at most some 24 bytes a column and
-/// 24 an entry of the most that the matrix had.
+/// All lists lie in one array, each with room to grow. They take at most some 24 bytes a column, and
+/// 24 for each of the most entries that the matrix has had.
 #[derive(Drop)]
 pub struct Columns {
     rows: u32,
@@ -59,11 +59,11 @@ impl Neighbours for Columns {
 }
 
 impl Columns {
-    /// The columns of a matrix of so many entries, with room for a sixteenth more, so that the first
-    /// entries that come find it.
+    /// The columns of a matrix of so many entries, with room for a sixteenth more, which the first
+    /// new entries take.
     ///
-    /// Returns `OutOfMemory` if 16 bytes a column and 4.25 an entry cannot be allocated. Work:
-    /// one copy of the lists.
+    /// Returns `OutOfMemory` if it cannot allocate 16 bytes a column and 4.25 an entry. Work: one
+    /// copy of the lists.
     pub fn of<N: Neighbours>(
         alloc: Global,
         neighbours: &N,
@@ -86,8 +86,8 @@ impl Columns {
 
     /// The columns of the transpose of a pattern: its rows, with room as in [`Columns::of`].
     ///
-    /// Returns `OutOfMemory` if 16 bytes a row, 4.25 an entry and a list of the longest row
-    /// cannot be allocated. Work: one copy of the lists.
+    /// Returns `OutOfMemory` if it cannot allocate 16 bytes a row, 4.25 an entry and a list of the
+    /// longest row. Work: one copy of the lists.
     pub fn of_rows(alloc: Global, pattern: &Pattern) -> Result<Columns, OutOfMemory>
         requires { IsPattern pattern.now }
         ensures { IfOk result (λ s. s.matrix ≡ transpose pattern.now) }
@@ -113,7 +113,7 @@ impl Columns {
         self.entries
     }
 
-    /// Whether a place is an entry. Any row and column may be asked for.
+    /// Whether a place is an entry. The row and the column may be any numbers.
     pub fn has(&self, row: Row, col: Col) -> bool
         ensures entry { IsTrue result ↔ IsEntry self.now.matrix row col }
         ensures pattern { IsPattern self.now.matrix }
@@ -121,12 +121,12 @@ impl Columns {
         col.0 < self.cols() && self.find(row, col).is_ok()
     }
 
-    /// Sees to it that a column has room for one row more; the matrix stays.
+    /// Makes room for one row more in a column; the matrix stays.
     ///
-    /// A column that has none moves to the end of the array, with twice the room. Where the array
-    /// has grown past four times the entries and twice the columns, all lists are copied into a new
-    /// one first: that comes once in so many edits that their number pays for it. Returns
-    /// `OutOfMemory` if it cannot allocate the new room or the new array.
+    /// A column without room moves to the end of the array, with twice the room. If the array has
+    /// more places than four times the entries and twice the columns, all lists are copied into a
+    /// new array first. So many edits come between two such copies that each edit pays for a
+    /// constant part. Returns `OutOfMemory` if it cannot allocate the new room or the new array.
     pub fn make_room(&mut self, alloc: Global, col: Col) -> Result<(), OutOfMemory>
         requires col { col < cols self.old.matrix }
         requires few { length (column self.old.matrix col) < self.old.matrix.rows }
@@ -165,8 +165,8 @@ impl Columns {
         Ok(())
     }
 
-    /// Puts an entry in, unless it is there. The column must have room for it. Work: a search by
-    /// halves, and one move of each row of the column behind it.
+    /// Inserts an entry, unless it is there. The column must have room for it. Work: a binary search,
+    /// and one move of each row of the column behind it.
     pub fn insert(&mut self, row: Row, col: Col)
         requires row { row < self.old.matrix.rows }
         requires col { col < cols self.old.matrix }
@@ -180,7 +180,7 @@ impl Columns {
         }
     }
 
-    /// Takes an entry out, if it is there, and leaves its room to the column. Work: as for
+    /// Removes an entry, if it is there; the column keeps its room. Work: as for
     /// [`Columns::insert`].
     pub fn take(&mut self, row: Row, col: Col)
         requires col { col < cols self.old.matrix }

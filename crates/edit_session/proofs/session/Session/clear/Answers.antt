@@ -6,7 +6,7 @@ use Rattle.edit_session.proofs.SessionLemmas.{clear_none}
 use Rattle.edit_session.proofs.session.Session.clear.Goals as goal
 
 pub returns-clause-matrix : goal.returns-clause-matrix
-returns-clause-matrix g c = clear_none c.self.inside.columns.matrix c.self.inside.matching c.self.inside.cover (c.args.row, c.args.col) c.args.self.now c.self.view_is c.has.ensures.pattern (λ e. true≢false (sym (c.has.ensures.entry.1 e) ∙ c.if-has.false))
+returns-clause-matrix g c = clear_none c.self.inside.kept.columns.matrix c.self.inside.kept.matching c.self.inside.kept.cover (c.args.row, c.args.col) c.args.self.now c.self.view_is c.has.ensures.pattern (λ e. true≢false (sym (c.has.ensures.entry.1 e) ∙ c.if-has.false))
 
 pub returns-clause-searched : goal.returns-clause-searched
 returns-clause-searched g c = record {
