@@ -1,7 +1,7 @@
 -- What an edit leaves of a maximum matching and of the cover beside it.
-use Rattle.std.proofs.Common.{◌≡◌, ◌≢◌, ◌⊎◌, ◌↔◌, ◌∙◌, ℕ, suc, ◌+◌, ◌<◌, ◌≤◌, Bool, true, false, true≢false, List, Option, Some, None, ◌∷◌, length, nat_eq, refl, sym, ap, subst, inl, inr, ⊎_elim, arith, eq-eqb, eqb-true, IsTrue}
+use Rattle.std.proofs.Common.{◌≡◌, ◌≢◌, ◌⊎◌, ◌↔◌, ◌∙◌, ℕ, suc, ◌+◌, ◌<◌, ◌≤◌, Bool, true, false, true≢false, List, Option, Some, None, Ok, Err, ◌∷◌, length, nat_eq, refl, sym, ap, subst, inl, inr, ⊎_elim, arith, eq-eqb, eqb-true, IsTrue}
 use Rattle.std.specs.Option.{is_some}
-use Rattle.std.specs.Prelude.{IfNone}
+use Rattle.std.specs.Prelude.{IfNone, OnErr, OnOk, Result, is_ok}
 use Rattle.std.proofs.lemmas.List.{length-set}
 use Rattle.bip_defs.specs.EditedMatrix.{with_place, without_place}
 use Rattle.bip_defs.specs.Lists.{Among, AreDistinct, IsMarked, IsRising, Lists}
@@ -30,6 +30,16 @@ no_mates m r c out = (λ (t : false ≡ true). absurd (true≢false (sym t)), λ
 pub none_found : {X : Type 0} (P : Type 0) (o : Option X) → is_some o ≡ false → IfNone o P → P
 none_found P None e h = h
 none_found P (Some x) e h = absurd (true≢false e)
+
+-- An answer that is never refused.
+
+pub on_ok : {X E : Type 0} (r : Result X E) (P : Type 0) → P → OnOk r P
+on_ok (Ok x) P p = p
+on_ok (Err e) P p = tt
+
+pub no_err : {X E : Type 0} (r : Result X E) (P : Type 0) → IsTrue (is_ok r) → OnErr r P
+no_err (Ok x) P t = tt
+no_err (Err e) P t = absurd (true≢false (sym t))
 
 -- What an edit leaves of a matching.
 

@@ -1,9 +1,9 @@
 -- What contracts see of a session.
-use Rattle.std.specs.Prelude.{◌≡◌, ◌⊎◌, ◌↔◌, ℕ, Bool, List, length}
+use Rattle.std.specs.Prelude.{◌≡◌, ◌⊎◌, ◌↔◌, ◌+◌, ◌≤◌, ℕ, Bool, List, length}
 use Rattle.bip_defs.specs.EditedMatrix.{without_place}
 use Rattle.bip_defs.specs.Lists.{Among, IsMarked}
 use Rattle.bip_defs.specs.Matching.{IsMaximum, cols_of, rows_of}
-use Rattle.bip_defs.specs.Matrix.{IsEntry, Matrix, Place, cols, transpose}
+use Rattle.bip_defs.specs.Matrix.{IsEntry, Matrix, Place, cols, entry_count, transpose}
 use Rattle.bip_defs.specs.Paths.{IsParted}
 use Rattle.bip_graph.specs.Matching.{IsMatchingOf, IsMaximumOf, Pairing}
 use Rattle.vertex_cover.specs.Back.{IsSearchedTo}
@@ -87,3 +87,10 @@ pub record ClearSearches (p : Place) (old new : MatchedMatrix) (before after : �
   -- it was not: from its column
   pub from : Among p old.matching.pairs → ¬ IsMarked old.marks p.1 → (rest : List Place) × IsParted p old.matching.pairs rest
       × IsSearchedFrom p.1 new.matrix rest old.marks new.matching.pairs new.marks before after
+
+-- what clearing the entry p makes of a session, with the count of steps before and after it
+pub record Clears (p : Place) (old new : MatchedMatrix) (before after : ℕ) : Type 0 where
+  pub matrix : new.matrix ≡ without_place old.matrix p
+  pub steps : after ≤ before + (cols old.matrix + entry_count old.matrix)
+  pub no_step : ¬ Among p old.matching.pairs → after ≡ before
+  pub searched : ClearSearches p old new before after

@@ -8,7 +8,7 @@ ghost use Rattle.bip_defs.specs.Matching.{IsRank, cols_of};
 ghost use Rattle.bip_defs.specs.Matrix.{IsEntry, cols, entry_count};
 ghost use Rattle.bip_graph.specs.Decompositions.{Decomposes, components_of};
 ghost use Rattle.bip_graph.specs.Matching.{IsMaximumOf};
-ghost use Rattle.edit_session.specs.Sessions.{ClearSearches, EntrySearches, HasNewEntry, HasSettled, IsWhole, MatchedMatrix, NeedsNoSearch, Searches};
+ghost use Rattle.edit_session.specs.Sessions.{ClearSearches, Clears, EntrySearches, HasNewEntry, HasSettled, IsWhole, MatchedMatrix, NeedsNoSearch, Searches};
 ghost use Rattle.vertex_cover.specs.Covers.{IsCover};
 ghost use Rattle.sp_ids.specs.Limits.{max_entries};
 
@@ -244,14 +244,8 @@ impl Session {
     ) -> Result<u32, OutOfMemory>
         requires entry { IsEntry self.old.matrix row col }
         ensures ok { IsTrue (is_ok result) }
-        ensures matrix { OnOk result (self.new.matrix ≡ without_place self.old.matrix (row, col)) }
         ensures rank { IfOk result (IsRank self.new.matrix) }
-        ensures unchanged { OnErr result (self.new ≡ self.old) }
-        ensures steps { steps.new
-            ≤ steps.old + (cols self.old.matrix + entry_count self.old.matrix) }
-        ensures no_step { ¬ Among (row, col) self.old.matching.pairs → steps.new ≡ steps.old }
-        ensures searched { OnOk result
-            (ClearSearches (row, col) self.old self.new steps.old steps.new) }
+        ensures clears { Clears (row, col) self.old self.new steps.old steps.new }
     {
         let were_mates = are_mates(&self.kept.matching, row, col);
         self.kept.columns.take(row, col);

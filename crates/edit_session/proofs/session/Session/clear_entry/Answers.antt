@@ -1,4 +1,4 @@
-use Rattle.std.proofs.Common.{◌≡◌, ◌∙◌, ◌<◌, Bool, List, length, refl, subst, sym, true≢false}
+use Rattle.std.proofs.Common.{◌≡◌, ◌∙◌, ◌<◌, Bool, List, ap, arith, length, refl, subst, sym, true≢false}
 use Rattle.bip_defs.specs.EditedMatrix.{without_place}
 use Rattle.bip_defs.specs.Lists.{Among, IsMarked}
 use Rattle.bip_defs.specs.Matrix.{IsEntry, IsTransposeOf, Matrix, Place, cols, transpose}
@@ -40,11 +40,6 @@ invariant_of-self-then-not-is_marked g c =
     let turned : c.take-2.new.self.matrix ≡ without_place c.self.inside.kept.rows.matrix (c.args.col, c.args.row) = rw c.row.view_is at (rw c.col.view_is at c.take-2.ensures.matrix) in
     parted_kept c.self.inside.kept.columns.matrix c.self.inside.kept.rows.matrix c.take.new.self.matrix c.take-2.new.self.matrix (c.args.row, c.args.col) c.self.inside.kept.matching c.unpair.new.self c.augment_from.new.matching c.self.inside.kept.cover c.add_root.new.self c.augment_from.new.self _ _ c.self.invariant c.add_root.ensures c.take.ensures.matrix turned c.unpair.ensures.size c.augment_from.ensures.decided
 
-pub returns-then-not-is_marked-clause-steps : goal.returns-then-not-is_marked-clause-steps
-returns-then-not-is_marked-clause-steps g c =
-    let entry : IsEntry c.self.inside.kept.columns.matrix c.args.row c.args.col = subst (λ (w : MatchedMatrix). IsEntry w.matrix c.args.row c.args.col) (sym c.self.view_is) c.requires.entry in
-    cleared_steps c.self.inside.kept.columns.matrix c.take.new.self.matrix c.self.inside.kept.matching c.self.inside.kept.cover (c.args.row, c.args.col) c.args.self.now c.args.steps.now c.augment_from.new.steps c.self.view_is c.take.ensures.matrix c.take.ensures.pattern entry c.augment_from.ensures.decided.steps
-
 pub augment_to-requires-clause-free : goal.augment_to-requires-clause-free
 augment_to-requires-clause-free g c = parted_row_free (c.args.row, c.args.col) c.self.inside.kept.matching.pairs c.unpair.new.self.pairs c.unpair.ensures.pairs
 
@@ -73,46 +68,49 @@ invariant_of-self-2 g c =
     let turned : c.take-2.new.self.matrix ≡ without_place c.self.inside.kept.rows.matrix (c.args.col, c.args.row) = rw c.row.view_is at (rw c.col.view_is at c.take-2.ensures.matrix) in
     parted_kept c.self.inside.kept.columns.matrix c.self.inside.kept.rows.matrix c.take.new.self.matrix c.take-2.new.self.matrix (c.args.row, c.args.col) c.self.inside.kept.matching c.unpair.new.self c.augment_to.new.matching c.self.inside.kept.cover c.add_root.new.self c.augment_to.new.self _ _ c.self.invariant c.add_root.ensures c.take.ensures.matrix turned c.unpair.ensures.size c.augment_to.ensures.decided
 
-pub returns-clause-steps : goal.returns-clause-steps
-returns-clause-steps g c =
-    let entry : IsEntry c.self.inside.kept.columns.matrix c.args.row c.args.col = subst (λ (w : MatchedMatrix). IsEntry w.matrix c.args.row c.args.col) (sym c.self.view_is) c.requires.entry in
-    cleared_steps c.self.inside.kept.columns.matrix c.take.new.self.matrix c.self.inside.kept.matching c.self.inside.kept.cover (c.args.row, c.args.col) c.args.self.now c.args.steps.now c.augment_to.new.steps c.self.view_is c.take.ensures.matrix c.take.ensures.pattern entry c.augment_to.ensures.decided.steps
-
-pub returns-then-not-were_mates-clause-no_step : goal.returns-then-not-were_mates-clause-no_step
-returns-then-not-were_mates-clause-no_step g c = λ h. refl
-
-pub returns-then-not-is_marked-clause-no_step : goal.returns-then-not-is_marked-clause-no_step
-returns-then-not-is_marked-clause-no_step g c = λ not. absurd (not (subst (λ (w : MatchedMatrix). Among {X = Place} (c.args.row, c.args.col) w.matching.pairs) c.self.view_is (c.are_mates-were_mates.ensures.0 c.if-not-were_mates.false)))
-
-pub returns-clause-no_step : goal.returns-clause-no_step
-returns-clause-no_step g c = λ not. absurd (not (subst (λ (w : MatchedMatrix). Among {X = Place} (c.args.row, c.args.col) w.matching.pairs) c.self.view_is (c.are_mates-were_mates.ensures.0 c.if-not-were_mates.false)))
-
-pub returns-then-not-is_marked-clause-searched : goal.returns-then-not-is_marked-clause-searched
-returns-then-not-is_marked-clause-searched g c = record {
-  to = subst (λ (w : MatchedMatrix). Among {X = Place} (c.args.row, c.args.col) w.matching.pairs → IsMarked w.marks c.args.col
-      → (rest : List Place) × IsParted (c.args.row, c.args.col) w.matching.pairs rest × IsSearchedTo c.args.row c.take.new.self.matrix (transpose c.take.new.self.matrix) rest w.marks c.augment_from.new.matching.pairs c.augment_from.new.self c.args.steps.now c.augment_from.new.steps) c.self.view_is
-      (λ h on. absurd (true≢false (sym (c.is_marked.ensures.1 (subst (λ (z : List Bool). IsMarked z c.args.col) (sym c.add_root.ensures) on)) ∙ c.if-not-is_marked.true)));
-  from = subst (λ (w : MatchedMatrix). Among {X = Place} (c.args.row, c.args.col) w.matching.pairs → ¬ IsMarked w.marks c.args.col
-      → (rest : List Place) × IsParted (c.args.row, c.args.col) w.matching.pairs rest × IsSearchedFrom c.args.col c.take.new.self.matrix rest w.marks c.augment_from.new.matching.pairs c.augment_from.new.self c.args.steps.now c.augment_from.new.steps) c.self.view_is
-      (λ h off. (c.unpair.new.self.pairs, c.unpair.ensures.pairs, rw c.add_root.ensures at c.augment_from.ensures.searched));
-}
-
-pub returns-clause-searched : goal.returns-clause-searched
-returns-clause-searched g c = record {
-  to = let turned : c.take-2.new.self.matrix ≡ without_place c.self.inside.kept.rows.matrix (c.args.col, c.args.row) = rw c.row.view_is at (rw c.col.view_is at c.take-2.ensures.matrix) in
-      subst (λ (w : MatchedMatrix). Among {X = Place} (c.args.row, c.args.col) w.matching.pairs → IsMarked w.marks c.args.col
-      → (rest : List Place) × IsParted (c.args.row, c.args.col) w.matching.pairs rest × IsSearchedTo c.args.row c.take.new.self.matrix (transpose c.take.new.self.matrix) rest w.marks c.augment_to.new.matching.pairs c.augment_to.new.self c.args.steps.now c.augment_to.new.steps) c.self.view_is
-      (λ h on. (c.unpair.new.self.pairs, c.unpair.ensures.pairs, subst (λ (b : Matrix). IsSearchedTo c.args.row c.take.new.self.matrix b c.unpair.new.self.pairs c.self.inside.kept.cover c.augment_to.new.matching.pairs c.augment_to.new.self c.args.steps.now c.augment_to.new.steps) (cleared_rows c.self.inside.kept.columns.matrix c.take.new.self.matrix c.self.inside.kept.rows.matrix c.take-2.new.self.matrix (c.args.row, c.args.col) c.take.ensures.matrix c.self.invariant.rows turned) (rw c.add_root.ensures at c.augment_to.ensures.searched)));
-  from = subst (λ (w : MatchedMatrix). Among {X = Place} (c.args.row, c.args.col) w.matching.pairs → ¬ IsMarked w.marks c.args.col
-      → (rest : List Place) × IsParted (c.args.row, c.args.col) w.matching.pairs rest × IsSearchedFrom c.args.col c.take.new.self.matrix rest w.marks c.augment_to.new.matching.pairs c.augment_to.new.self c.args.steps.now c.augment_to.new.steps) c.self.view_is
-      (λ h off. absurd (off (subst (λ (z : List Bool). IsMarked z c.args.col) c.add_root.ensures (c.is_marked.ensures.0 c.if-not-is_marked.false))));
-}
-
-pub returns-then-not-were_mates-clause-searched : goal.returns-then-not-were_mates-clause-searched
-returns-then-not-were_mates-clause-searched g c = record {
-  to = λ h on. absurd (true≢false (sym (c.are_mates-were_mates.ensures.1 (subst (λ (w : MatchedMatrix). Among {X = Place} (c.args.row, c.args.col) w.matching.pairs) (sym c.self.view_is) h)) ∙ c.if-not-were_mates.true));
-  from = λ h off. absurd (true≢false (sym (c.are_mates-were_mates.ensures.1 (subst (λ (w : MatchedMatrix). Among {X = Place} (c.args.row, c.args.col) w.matching.pairs) (sym c.self.view_is) h)) ∙ c.if-not-were_mates.true));
-}
-
 pub are_mates-were_mates-requires-clause-cols_differ : goal.are_mates-were_mates-requires-clause-cols_differ
 are_mates-were_mates-requires-clause-cols_differ g c = c.self.invariant.maximum.matching.matching.cols_differ
+
+pub returns-then-not-is_marked-clause-clears : goal.returns-then-not-is_marked-clause-clears
+returns-then-not-is_marked-clause-clears g c = record {
+  matrix = c.take.ensures.matrix ∙ ap (λ (w : MatchedMatrix). without_place w.matrix (c.args.row, c.args.col)) c.self.view_is;
+  steps = let entry : IsEntry c.self.inside.kept.columns.matrix c.args.row c.args.col = subst (λ (w : MatchedMatrix). IsEntry w.matrix c.args.row c.args.col) (sym c.self.view_is) c.requires.entry in
+      cleared_steps c.self.inside.kept.columns.matrix c.take.new.self.matrix c.self.inside.kept.matching c.self.inside.kept.cover (c.args.row, c.args.col) c.args.self.now c.args.steps.now c.augment_from.new.steps c.self.view_is c.take.ensures.matrix c.take.ensures.pattern entry c.augment_from.ensures.decided.steps;
+  no_step = λ not. absurd (not (subst (λ (w : MatchedMatrix). Among {X = Place} (c.args.row, c.args.col) w.matching.pairs) c.self.view_is (c.are_mates-were_mates.ensures.0 c.if-not-were_mates.false)));
+  searched = record {
+    to = subst (λ (w : MatchedMatrix). Among {X = Place} (c.args.row, c.args.col) w.matching.pairs → IsMarked w.marks c.args.col
+        → (rest : List Place) × IsParted (c.args.row, c.args.col) w.matching.pairs rest × IsSearchedTo c.args.row c.take.new.self.matrix (transpose c.take.new.self.matrix) rest w.marks c.augment_from.new.matching.pairs c.augment_from.new.self c.args.steps.now c.augment_from.new.steps) c.self.view_is
+        (λ h on. absurd (true≢false (sym (c.is_marked.ensures.1 (subst (λ (z : List Bool). IsMarked z c.args.col) (sym c.add_root.ensures) on)) ∙ c.if-not-is_marked.true)));
+    from = subst (λ (w : MatchedMatrix). Among {X = Place} (c.args.row, c.args.col) w.matching.pairs → ¬ IsMarked w.marks c.args.col
+        → (rest : List Place) × IsParted (c.args.row, c.args.col) w.matching.pairs rest × IsSearchedFrom c.args.col c.take.new.self.matrix rest w.marks c.augment_from.new.matching.pairs c.augment_from.new.self c.args.steps.now c.augment_from.new.steps) c.self.view_is
+        (λ h off. (c.unpair.new.self.pairs, c.unpair.ensures.pairs, rw c.add_root.ensures at c.augment_from.ensures.searched));
+  };
+}
+
+pub returns-clause-clears : goal.returns-clause-clears
+returns-clause-clears g c = record {
+  matrix = c.take.ensures.matrix ∙ ap (λ (w : MatchedMatrix). without_place w.matrix (c.args.row, c.args.col)) c.self.view_is;
+  steps = let entry : IsEntry c.self.inside.kept.columns.matrix c.args.row c.args.col = subst (λ (w : MatchedMatrix). IsEntry w.matrix c.args.row c.args.col) (sym c.self.view_is) c.requires.entry in
+      cleared_steps c.self.inside.kept.columns.matrix c.take.new.self.matrix c.self.inside.kept.matching c.self.inside.kept.cover (c.args.row, c.args.col) c.args.self.now c.args.steps.now c.augment_to.new.steps c.self.view_is c.take.ensures.matrix c.take.ensures.pattern entry c.augment_to.ensures.decided.steps;
+  no_step = λ not. absurd (not (subst (λ (w : MatchedMatrix). Among {X = Place} (c.args.row, c.args.col) w.matching.pairs) c.self.view_is (c.are_mates-were_mates.ensures.0 c.if-not-were_mates.false)));
+  searched = record {
+    to = let turned : c.take-2.new.self.matrix ≡ without_place c.self.inside.kept.rows.matrix (c.args.col, c.args.row) = rw c.row.view_is at (rw c.col.view_is at c.take-2.ensures.matrix) in
+        subst (λ (w : MatchedMatrix). Among {X = Place} (c.args.row, c.args.col) w.matching.pairs → IsMarked w.marks c.args.col
+        → (rest : List Place) × IsParted (c.args.row, c.args.col) w.matching.pairs rest × IsSearchedTo c.args.row c.take.new.self.matrix (transpose c.take.new.self.matrix) rest w.marks c.augment_to.new.matching.pairs c.augment_to.new.self c.args.steps.now c.augment_to.new.steps) c.self.view_is
+        (λ h on. (c.unpair.new.self.pairs, c.unpair.ensures.pairs, subst (λ (b : Matrix). IsSearchedTo c.args.row c.take.new.self.matrix b c.unpair.new.self.pairs c.self.inside.kept.cover c.augment_to.new.matching.pairs c.augment_to.new.self c.args.steps.now c.augment_to.new.steps) (cleared_rows c.self.inside.kept.columns.matrix c.take.new.self.matrix c.self.inside.kept.rows.matrix c.take-2.new.self.matrix (c.args.row, c.args.col) c.take.ensures.matrix c.self.invariant.rows turned) (rw c.add_root.ensures at c.augment_to.ensures.searched)));
+    from = subst (λ (w : MatchedMatrix). Among {X = Place} (c.args.row, c.args.col) w.matching.pairs → ¬ IsMarked w.marks c.args.col
+        → (rest : List Place) × IsParted (c.args.row, c.args.col) w.matching.pairs rest × IsSearchedFrom c.args.col c.take.new.self.matrix rest w.marks c.augment_to.new.matching.pairs c.augment_to.new.self c.args.steps.now c.augment_to.new.steps) c.self.view_is
+        (λ h off. absurd (off (subst (λ (z : List Bool). IsMarked z c.args.col) c.add_root.ensures (c.is_marked.ensures.0 c.if-not-is_marked.false))));
+  };
+}
+
+pub returns-then-not-were_mates-clause-clears : goal.returns-then-not-were_mates-clause-clears
+returns-then-not-were_mates-clause-clears g c = record {
+  matrix = c.take.ensures.matrix ∙ ap (λ (w : MatchedMatrix). without_place w.matrix (c.args.row, c.args.col)) c.self.view_is;
+  steps = omega arith;
+  no_step = λ h. refl;
+  searched = record {
+    to = λ h on. absurd (true≢false (sym (c.are_mates-were_mates.ensures.1 (subst (λ (w : MatchedMatrix). Among {X = Place} (c.args.row, c.args.col) w.matching.pairs) (sym c.self.view_is) h)) ∙ c.if-not-were_mates.true));
+    from = λ h off. absurd (true≢false (sym (c.are_mates-were_mates.ensures.1 (subst (λ (w : MatchedMatrix). Among {X = Place} (c.args.row, c.args.col) w.matching.pairs) (sym c.self.view_is) h)) ∙ c.if-not-were_mates.true));
+  };
+}
