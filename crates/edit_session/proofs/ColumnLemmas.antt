@@ -1,10 +1,10 @@
 -- Columns that a search by halves goes through, and what an edit of one leaves of the matrix.
-use Rattle.std.proofs.Common.{◌≡◌, ◌↔◌, ◌∙◌, ℕ, zero, suc, ◌+◌, ◌-◌, ◌^◌, ◌<◌, ◌≤◌, false, true, true≢false, List, [], ◌∷◌, length, get_or, set, refl, sym, ap, subst, arith, eq-eqb, ne_eqb, Ok, Err, IfErr, IfOk, IsTrue, MatchResult}
+use Rattle.std.proofs.Common.{◌≡◌, ◌↔◌, ◌∙◌, ℕ, zero, suc, ◌+◌, ◌-◌, ◌^◌, ◌<◌, ◌≤◌, false, true, true≢false, List, [], ◌∷◌, ◌++◌, length, get_or, set, take, refl, sym, ap, subst, arith, eq-eqb, ne_eqb, Ok, Err, IfErr, IfOk, IsTrue, MatchResult}
 use Rattle.std.specs.Prelude.{Result, is_ok}
 use Rattle.std.specs.List.Sorted.{IsBinarySearchResult}
 use Rattle.std.specs.Ordering.{nat_cmp}
 use Rattle.std.proofs.Math.Decide.{dec_lt}
-use Rattle.std.proofs.lemmas.List.{length-set}
+use Rattle.std.proofs.lemmas.List.{get_or_past, length-set, take_all, take_more}
 use Rattle.std.proofs.lemmas.List.Edits.{length-remove}
 use Rattle.std.proofs.lemmas.List.Sorted.{searched}
 use Rattle.std.specs.List.{insert, remove}
@@ -12,7 +12,7 @@ use Rattle.bip_defs.specs.EditedMatrix.{with_number, with_place, without_number,
 use Rattle.bip_defs.specs.Lists.{Among, IsRising, Lists, StandsAt}
 use Rattle.bip_defs.specs.Matrix.{IsEntry, Matrix, Place, cols, column, entry_count}
 use Rattle.bip_defs.proofs.EditLemmas.{changed_here, with_again, with_count, with_lists, without_absent, without_count, without_lists, without_none}
-use Rattle.bip_defs.proofs.Sets.{among_at, below_each_sound, place_among, test_is, test_is_not, rising_order}
+use Rattle.bip_defs.proofs.Sets.{among_at, below_each_sound, entry_col, place_among, test_is, test_is_not, rising_order}
 use Rattle.edit_session.specs.Columns.{IsCounted, IsGap, RoomyMatrix}
 
 with_first : (x y : ℕ) (ys : List ℕ) → x < y → with_number x (y ∷ ys) ≡ x ∷ y ∷ ys
@@ -137,3 +137,27 @@ taken_room lists lists2 room room2 col at e f filled lt few =
 pub taken_has_room : (rows : ℕ) (lists lists2 : List (List ℕ)) (room room2 : List ℕ) (row col at : ℕ) (now : RoomyMatrix) → record { matrix = matrix_of rows lists; room = room } ≡ now → lists2 ≡ set lists col (remove (get_or lists col []) at) → room2 ≡ room → length (get_or lists col []) ≤ get_or room col 0
     → col < cols now.matrix → StandsAt (column now.matrix col) row at → length (get_or lists2 col []) < get_or room2 col 0
 taken_has_room rows lists lists2 room room2 row col at now view e f filled = subst (λ (w : RoomyMatrix). col < cols w.matrix → StandsAt (column w.matrix col) row at → length (get_or lists2 col []) < get_or room2 col 0) view (λ lt s. taken_room lists lists2 room room2 col at e f filled lt s.0)
+
+-- Columns that are copied, one after another.
+
+pub copied_more : (a : Matrix) (n : ℕ) (lists : List (List ℕ)) (rows : List ℕ) → n < cols a → lists ≡ take n a.columns → rows ≡ column a n → lists ++ rows ∷ [] ≡ take (n + 1) a.columns
+copied_more a n lists rows lt e f = ap (λ ls. ls ++ rows ∷ []) e ∙ ap (λ r. take n a.columns ++ r ∷ []) f ∙ sym (take_more a.columns n [] lt)
+
+-- the lists of all columns, with the number of their entries
+pub copied_counted : (a : Matrix) (n rows entries : ℕ) (lists : List (List ℕ)) → rows ≡ a.rows → n ≡ cols a → rows < 2 ^ 32 → cols a < 2 ^ 32 → entries < 2 ^ 32 → entry_count a ≡ entries → lists ≡ take n a.columns → ((c : ℕ) → c < n → Lists (λ r. IsEntry a r c) (column a c)) → IsCounted (record { rows = rows; columns = lists }) entries
+copied_counted a n rows entries lists e f few_rows few_cols few_entries count copied listed = subst (λ (z : Matrix). IsCounted z entries) (λ i. record { rows = (sym e) i; columns = (sym whole) i }) (record {
+  pattern = record {
+    few_rows = omega (arith, e, few_rows);
+    few_cols = few_cols;
+    few_entries = omega (arith, count, few_entries);
+    columns = λ c. by c (dec_lt c (cols a));
+  };
+  count = count;
+})
+  where
+    whole : lists ≡ a.columns
+    whole = copied ∙ take_all n a.columns (omega (arith, f))
+
+    by : (c : ℕ) → Dec (c < cols a) → Lists (λ r. IsEntry a r c) (column a c)
+    by c (yes lt) = listed c (omega (arith, f, lt))
+    by c (no nlt) = subst (Lists (λ r. IsEntry a r c)) (sym (get_or_past a.columns c [] (omega (arith, nlt)))) (record { rising = tt; sound = λ r h. elim h [ ]; complete = λ r h. absurd (nlt (entry_col a r c h)) })

@@ -1,28 +1,28 @@
 -- What an edit leaves of a maximum matching and of the cover beside it.
-use Rattle.std.proofs.Common.{◌≡◌, ◌≢◌, ◌⊎◌, ◌↔◌, ◌∙◌, ℕ, suc, ◌+◌, ◌<◌, ◌≤◌, Bool, true, false, true≢false, List, Option, Some, None, ◌∷◌, length, nat_eq, sym, ap, subst, inl, inr, ⊎_elim, arith, eq-eqb, eqb-true, IsTrue}
+use Rattle.std.proofs.Common.{◌≡◌, ◌≢◌, ◌⊎◌, ◌↔◌, ◌∙◌, ℕ, suc, ◌+◌, ◌<◌, ◌≤◌, Bool, true, false, true≢false, List, Option, Some, None, Ok, Err, ◌∷◌, length, nat_eq, refl, sym, ap, subst, inl, inr, ⊎_elim, arith, eq-eqb, eqb-true, IsTrue}
 use Rattle.std.specs.Option.{is_some}
-use Rattle.std.specs.Prelude.{IfNone}
+use Rattle.std.specs.Prelude.{IfNone, OnErr, OnOk, Result, is_ok}
 use Rattle.std.proofs.lemmas.List.{length-set}
 use Rattle.bip_defs.specs.EditedMatrix.{with_place, without_place}
 use Rattle.bip_defs.specs.Lists.{Among, AreDistinct, IsMarked, IsRising, Lists}
-use Rattle.bip_defs.specs.Matching.{IsMatching, IsMaximum, cols_of, rows_of}
+use Rattle.bip_defs.specs.Matching.{IsMatching, cols_of, rows_of}
 use Rattle.bip_defs.specs.Matrix.{IsEntry, Matrix, Place, cols, column, entry_count, transpose}
 use Rattle.bip_defs.specs.Paths.{IsParted}
-use Rattle.bip_defs.proofs.EditLemmas.{kept_is_maximum, kept_with, with_again, without_count, without_lists, without_none, without_place_back, without_place_over, without_or_there}
+use Rattle.bip_defs.proofs.EditLemmas.{kept_is_maximum, kept_with, one_more, with_again, without_count, without_goes_back, without_lists, without_none, without_place_back, without_place_over, without_or_there}
 use Rattle.bip_defs.proofs.Full.{few_below, matching_few}
 use Rattle.bip_defs.proofs.Sets.{col_among, col_pair, number_among, number_same, one_col, one_row, rising_distinct}
 use Rattle.bip_defs.proofs.Transposed.{transpose_is}
-use Rattle.bip_graph.specs.Matching.{IsMatchingOf, IsMaximumOf, Pairing}
+use Rattle.bip_graph.specs.Matching.{IsMatchingOf, IsMaximumOf, IsPairing, Pairing}
 use Rattle.vertex_cover.specs.Back.{IsCoverButRow}
-use Rattle.vertex_cover.specs.Covers.{HasMarkedMate, IsCover, IsCoverBut, IsCovered}
+use Rattle.vertex_cover.specs.Covers.{Decides, HasCover, HasMarkedMate, IsCover, IsCoverBut}
 use Rattle.sp_pattern.specs.Stored.{IsPattern}
-use Rattle.edit_session.specs.Sessions.{IsSaturating, IsKept, MatchedMatrix}
-use Rattle.edit_session.proofs.TransposeLemmas.{transpose_count, with_transpose, without_transpose}
+use Rattle.edit_session.specs.Sessions.{IsKept, IsNewEntry, IsSaturating, MatchedMatrix, matched}
+use Rattle.edit_session.proofs.TransposeLemmas.{transpose_count, transpose_counted, with_transpose, without_transpose}
 
 -- Pairs.
 
-pub are_mates : (m : List Place) (s r c : ℕ) → IsRising (cols_of m) → Among (s, c) m → IsTrue (nat_eq s r) ↔ Among (r, c) m
-are_mates m s r c rising h = (λ t. subst (λ x. Among (x, c) m) (eqb-true s r t) h, λ k. eq-eqb s r (one_row m (rising_distinct (cols_of m) rising) s r c h k))
+pub are_mates : (m : List Place) (s r c : ℕ) → AreDistinct (cols_of m) → Among (s, c) m → IsTrue (nat_eq s r) ↔ Among (r, c) m
+are_mates m s r c differ h = (λ t. subst (λ x. Among (x, c) m) (eqb-true s r t) h, λ k. eq-eqb s r (one_row m differ s r c h k))
 
 pub no_mates : (m : List Place) (r c : ℕ) → ¬ Among c (cols_of m) → IsTrue false ↔ Among (r, c) m
 no_mates m r c out = (λ (t : false ≡ true). absurd (true≢false (sym t)), λ h. absurd (out (col_among r c m h)))
@@ -30,6 +30,16 @@ no_mates m r c out = (λ (t : false ≡ true). absurd (true≢false (sym t)), λ
 pub none_found : {X : Type 0} (P : Type 0) (o : Option X) → is_some o ≡ false → IfNone o P → P
 none_found P None e h = h
 none_found P (Some x) e h = absurd (true≢false e)
+
+-- An answer that is never refused.
+
+pub on_ok : {X E : Type 0} (r : Result X E) (P : Type 0) → P → OnOk r P
+on_ok (Ok x) P p = p
+on_ok (Err e) P p = tt
+
+pub no_err : {X E : Type 0} (r : Result X E) (P : Type 0) → IsTrue (is_ok r) → OnErr r P
+no_err (Ok x) P t = tt
+no_err (Err e) P t = absurd (true≢false (sym t))
 
 -- What an edit leaves of a matching.
 
@@ -53,33 +63,8 @@ paired_matching a m n p k e added rows rising = record {
 
 -- The cover.
 
--- the laws on covers that a function has called
-abbrev pub CoversShowMaximum : Type 0
-CoversShowMaximum = (a : Matrix) (m : List Place) (marks : List Bool) → IsMatching a m → IsCover a m marks → IsMaximum a m
-
-abbrev pub CoversStandAsLong : Type 0
-CoversStandAsLong = (a : Matrix) (m n : List Place) (marks : List Bool) → IsCover a m marks → IsMatching a n → length n ≡ length m → IsCover a n marks
-
-abbrev pub CoversStandLonger : Type 0
-CoversStandLonger = (a : Matrix) (p : Place) (m n : List Place) (marks : List Bool) → IsCover (without_place a p) m marks → IsMatching a n → length n ≡ suc (length m) → IsCover a n marks
-
-abbrev pub matched : Matrix → Pairing → List Bool → MatchedMatrix
-matched a m marks = record { matrix = a; matching = m; marks = marks }
-
 width : (b : Matrix) (p : Place) → cols (without_place b p) ≡ cols b
 width b p = length-set b.columns p.1 _
-
--- the cover of the others has the entry
-covers_again : (b : Matrix) (p : Place) (m : List Place) (marks : List Bool) → IsCover (without_place b p) m marks → IsCovered m marks p → IsCover b m marks
-covers_again b p m marks k had = record {
-  long = k.long ∙ width b p;
-  closed = λ r c on e. ⊎_elim (λ (s : (r, c) ≡ p). by r c s on had) (λ old. k.closed r c on old) (without_or_there b p r c e);
-  unmatched = λ c lt free. k.unmatched c (let w = width b p in omega (arith, w, lt)) free;
-}
-  where
-    by : (r c : ℕ) → (r, c) ≡ p → IsMarked marks c → IsCovered m marks p → HasMarkedMate m marks r
-    by r c s on (inl off) = absurd (off (subst (λ (q : Place). IsMarked marks q.1) s on))
-    by r c s on (inr h) = subst (λ (q : Place). HasMarkedMate m marks q.0) (sym s) h
 
 -- the entry's row and column have become a pair
 covers_paired : (b : Matrix) (p : Place) (m n : List Place) (marks : List Bool) → IsCover (without_place b p) m marks → ((q : Place) → Among q n ↔ ((q ≡ p) ⊎ Among q m)) → IsCover b n marks
@@ -105,13 +90,20 @@ covers_left a p m marks k = record {
 pub left_long : (a : Matrix) (p : Place) (marks : List Bool) → length marks ≡ cols a → length marks ≡ cols (without_place a p)
 left_long a p marks long = long ∙ sym (width a p)
 
--- but for the column of the entry that is set
-pub set_but : (b : Matrix) (p : Place) (m : List Place) (marks : List Bool) → IsCover (without_place b p) m marks → IsCoverBut p.1 b m marks
-set_but b p m marks k = record {
-  long = k.long ∙ width b p;
-  closed = λ r c ne on e. ⊎_elim (λ (s : (r, c) ≡ p). absurd (ne (ap (λ (q : Place). q.1) s))) (λ old. k.closed r c on old) (without_or_there b p r c e);
-  unmatched = λ c lt ne free. k.unmatched c (let w = width b p in omega (arith, w, lt)) free;
-}
+-- but for the column of the entry that is set, and but for its row
+pub set_but : (b : Matrix) (p : Place) (m : List Place) (marks : List Bool) → IsCover (without_place b p) m marks → IsCoverBut p.1 b m marks × IsCoverButRow p.0 b m marks
+set_but b p m marks k = (
+  record {
+    long = k.long ∙ width b p;
+    closed = λ r c ne on e. ⊎_elim (λ (s : (r, c) ≡ p). absurd (ne (ap (λ (q : Place). q.1) s))) (λ old. k.closed r c on old) (without_or_there b p r c e);
+    unmatched = λ c lt ne free. k.unmatched c (let w = width b p in omega (arith, w, lt)) free;
+  },
+  record {
+    long = k.long ∙ width b p;
+    closed = λ r c ne on e. ⊎_elim (λ (s : (r, c) ≡ p). absurd (ne (ap (λ (q : Place). q.0) s))) (λ old. k.closed r c on old) (without_or_there b p r c e);
+    unmatched = λ c lt free. k.unmatched c (let w = width b p in omega (arith, w, lt)) free;
+  },
+)
 
 -- but for the column of the pair that is cleared, where that is not marked
 pub cleared_but : (a : Matrix) (p : Place) (m rest : List Place) (marks : List Bool) → IsMatching a m → Among p m → ¬ IsMarked marks p.1 → IsParted p m rest → IsCover a m marks → IsCoverBut p.1 (without_place a p) rest marks
@@ -138,11 +130,8 @@ cleared_but_row a p m rest marks l pair on parted k = record {
 
 -- What a session keeps.
 
-shown_kept : (a b : Matrix) (m : Pairing) (marks : List Bool) → CoversShowMaximum → IsMatchingOf a m → b ≡ transpose a → IsCover a m.pairs marks → IsKept a b m marks
-shown_kept a b m marks law l t k = record { maximum = record { matching = l; maximum = law a m.pairs marks l.matching k }; cover = k; rows = t }
-
-pub had_kept : (a b : Matrix) (p : Place) (m : Pairing) (marks : List Bool) → CoversShowMaximum → IsMatchingOf a m → b ≡ transpose a → IsCover (without_place a p) m.pairs marks → IsCovered m.pairs marks p → IsKept a b m marks
-had_kept a b p m marks law l t k had = shown_kept a b m marks law l t (covers_again a p m.pairs marks k had)
+pub shown_kept : (a b : Matrix) (m : Pairing) (marks : List Bool) → HasCover a m marks → b ≡ transpose a → IsKept a b m marks
+shown_kept a b m marks k t = record { maximum = k.maximum; cover = k.cover; rows = t }
 
 -- An entry that is set.
 
@@ -152,30 +141,32 @@ set_again a m marks p now view k e = subst (λ (w : MatchedMatrix). w.matrix ≡
 pub room_left : (a : Matrix) (r c : ℕ) → IsPattern a → r < a.rows → ¬ IsEntry a r c → length (column a c) < a.rows
 room_left a r c k row ne = few_below a.rows (r ∷ column a c) (λ h. ne (row, h), rising_distinct (column a c) (k.columns c).rising) (λ x h. ⊎_elim (λ (e : x ≡ r). rw e row) (λ g. ((k.columns c).sound x g).0) h)
 
-pub turned_room_left : (a b : Matrix) (r c : ℕ) → b ≡ transpose a → IsPattern b → c < cols a → ¬ IsEntry a r c → length (column b r) < b.rows
-turned_room_left a b r c t k col ne = room_left b c r k (let e = ap (λ (z : Matrix). z.rows) t in omega (arith, e, col)) (λ e. ne ((transpose_is a).back r c (subst (λ z. IsEntry z c r) t e)))
+pub turned_room_left : (a b : Matrix) (r c : ℕ) → b ≡ transpose a → IsPattern a → c < cols a → ¬ IsEntry a r c → length (column b r) < b.rows
+turned_room_left a b r c t k col ne = room_left b c r (subst IsPattern (sym t) (transpose_counted a (entry_count a) k refl).pattern) (let e = ap (λ (z : Matrix). z.rows) t in omega (arith, e, col)) (λ e. ne ((transpose_is a).back r c (subst (λ z. IsEntry z c r) t e)))
 
 pub set_matching : (a : Matrix) (p : Place) (m : Pairing) → IsMatchingOf a m → IsMatchingOf (with_place a p) m
 set_matching a p m k = record { rows = k.rows; cols = rw length-set k.cols; matching = kept_with a p m.pairs k.matching }
 
-pub set_cover : (a b : Matrix) (p : Place) (m : List Place) (marks : List Bool) → b ≡ with_place a p → without_place (with_place a p) p ≡ a → IsCover a m marks → IsCover (without_place b p) m marks
-set_cover a b p m marks e back k = subst (λ z. IsCover (without_place z p) m marks) (sym e) (subst (λ z. IsCover z m marks) (sym back) k)
+-- without the entry that is new the matrix is the one from before
+pub set_back : (a b : Matrix) (p : Place) → IsPattern a → ¬ IsEntry a p.0 p.1 → p.1 < cols a → b ≡ with_place a p → a ≡ without_place b p
+set_back a b p k new lt e = sym (ap (λ z. without_place z p) e ∙ without_goes_back a p (k.columns p.1) new lt)
 
 pub set_rows : (a a2 b b2 : Matrix) (p : Place) → a2 ≡ with_place a p → b ≡ transpose a → b2 ≡ with_place b (p.1, p.0) → p.0 < a.rows → p.1 < cols a → b2 ≡ transpose a2
 set_rows a a2 b b2 p e t f row col = f ∙ ap (λ z. with_place z (p.1, p.0)) t ∙ with_transpose a p row col ∙ ap transpose (sym e)
 
-pub paired_kept : (a b : Matrix) (p : Place) (m n : Pairing) (marks : List Bool) → CoversShowMaximum → IsMatchingOf a m → IsEntry a p.0 p.1 → b ≡ transpose a → IsCover (without_place a p) m.pairs marks → ((q : Place) → Among q n.pairs ↔ ((q ≡ p) ⊎ Among q m.pairs)) → (n.rows ≡ m.rows) × (n.cols ≡ m.cols) → AreDistinct (rows_of n.pairs) → IsRising (cols_of n.pairs) → IsKept a b n marks
-paired_kept a b p m n marks law k e t cover added sizes rows rising = shown_kept a b n marks law (record { rows = sizes.0 ∙ k.rows; cols = sizes.1 ∙ k.cols; matching = paired_matching a m.pairs n.pairs p k.matching e added rows rising }) t (covers_paired a p m.pairs n.pairs marks cover added)
-
--- what a search makes of a cover but for one line, where that of the matrix without the entry stands for one pair more
-pub searched_kept : (a b : Matrix) (p : Place) (m n : Pairing) (marks marks2 : List Bool) → CoversShowMaximum → CoversStandLonger → b ≡ transpose a → IsCover (without_place a p) m.pairs marks → IsMatchingOf a n → ((length n.pairs ≡ suc (length m.pairs)) × (marks2 ≡ marks)) ⊎ ((n ≡ m) × IsCover a n.pairs marks2) → IsKept a b n marks2
-searched_kept a b p m n marks marks2 law stands t k l (inr (same, new)) = shown_kept a b n marks2 law l t new
-searched_kept a b p m n marks marks2 law stands t k l (inl (e, same)) = shown_kept a b n marks2 law l t (subst (IsCover a n.pairs) (sym same) (stands a p m.pairs n.pairs marks k l.matching e))
-
--- the same of the searches over an entry of two matched lines
-pub over_kept : (a b : Matrix) (p : Place) (m n : Pairing) (marks marks2 : List Bool) → CoversShowMaximum → CoversStandLonger → b ≡ transpose a → IsCover (without_place a p) m.pairs marks → IsMatchingOf a n → ((length n.pairs ≡ suc (length m.pairs)) × (marks2 ≡ marks)) ⊎ IsCover a n.pairs marks2 → IsKept a b n marks2
-over_kept a b p m n marks marks2 law stands t k l (inr new) = shown_kept a b n marks2 law l t new
-over_kept a b p m n marks marks2 law stands t k l (inl (e, same)) = shown_kept a b n marks2 law l t (subst (IsCover a n.pairs) (sym same) (stands a p m.pairs n.pairs marks k l.matching e))
+-- the entry's row and column have become a pair, one more than is a maximum without it
+pub paired_kept : (a b : Matrix) (p : Place) (m n : Pairing) (marks : List Bool) → IsNewEntry p a b m marks → ((q : Place) → Among q n.pairs ↔ ((q ≡ p) ⊎ Among q m.pairs)) → length n.pairs ≡ suc (length m.pairs) → (n.rows ≡ m.rows) × (n.cols ≡ m.cols) → IsPairing n → IsKept a b n marks
+paired_kept a b p m n marks new added size sizes pairing = record {
+  maximum = record {
+    matching = record { rows = sizes.0 ∙ new.matching.rows; cols = sizes.1 ∙ new.matching.cols; matching = matching };
+    maximum = record { matching = matching; longest = λ o l. let most = one_more (without_place a p) a p m.pairs o (λ r c e. without_or_there a p r c e) new.maximum l in omega (arith, most, size) };
+  };
+  cover = covers_paired a p m.pairs n.pairs marks new.cover added;
+  rows = new.rows;
+}
+  where
+    matching : IsMatching a n.pairs
+    matching = paired_matching a m.pairs n.pairs p new.matching.matching new.entry added pairing.rows_differ pairing.cols_rise
 
 -- An entry that is cleared.
 
@@ -188,14 +179,14 @@ kept_maximum a p m k nh = let max = kept_is_maximum a p m.pairs k.maximum nh in 
   maximum = max;
 }
 
-pub parted_matching : (a : Matrix) (p : Place) (m n : Pairing) → IsMatchingOf a m → ((q : Place) → Among q n.pairs ↔ (Among q m.pairs × (q.0 ≢ p.0))) → (n.rows ≡ m.rows) × (n.cols ≡ m.cols) → AreDistinct (rows_of n.pairs) → IsRising (cols_of n.pairs) → IsMatchingOf (without_place a p) n
-parted_matching a p m n k parted sizes rows rising = record {
+pub parted_matching : (a : Matrix) (p : Place) (m n : Pairing) → IsMatchingOf a m → IsParted p m.pairs n.pairs → (n.rows ≡ m.rows) × (n.cols ≡ m.cols) → IsPairing n → IsMatchingOf (without_place a p) n
+parted_matching a p m n k parted sizes pairing = record {
   rows = sizes.0 ∙ k.rows;
   cols = rw length-set (sizes.1 ∙ k.cols);
   matching = record {
     entries = λ r c h. let (g, ne) = (parted (r, c)).0 h in without_place_back a p r c (k.matching.entries r c g) (λ f. ne (ap (λ (q : Place). q.0) f));
-    rows_differ = rows;
-    cols_differ = rising_distinct (cols_of n.pairs) rising;
+    rows_differ = pairing.rows_differ;
+    cols_differ = rising_distinct (cols_of n.pairs) pairing.cols_rise;
   };
 }
 
@@ -212,15 +203,12 @@ left_kept a b a2 b2 p m marks k e f nh = record {
   rows = cleared_rows a a2 b b2 p e k.rows f;
 }
 
-pub parted_kept : (a b a2 b2 : Matrix) (p : Place) (m parted n : Pairing) (marks marks2 : List Bool) → CoversShowMaximum → CoversStandAsLong → IsKept a b m marks → a2 ≡ without_place a p → b2 ≡ without_place b (p.1, p.0) → length m.pairs ≡ suc (length parted.pairs) → IsMatchingOf a2 n → ((length n.pairs ≡ suc (length parted.pairs)) × (marks2 ≡ marks)) ⊎ ((n ≡ parted) × IsCover a2 n.pairs marks2) → IsKept a2 b2 n marks2
-parted_kept a b a2 b2 p m parted n marks marks2 law stands k e f g l found = shown_kept a2 b2 n marks2 law l (cleared_rows a a2 b b2 p e k.rows f) (by found)
+-- the search from the other pairs has decided
+pub parted_kept : (a b a2 b2 : Matrix) (p : Place) (m parted n : Pairing) (marks marks1 marks2 : List Bool) (old new : ℕ) → IsKept a b m marks → marks1 ≡ marks → a2 ≡ without_place a p → b2 ≡ without_place b (p.1, p.0) → length m.pairs ≡ suc (length parted.pairs) → Decides a2 parted n marks1 marks2 old new → IsKept a2 b2 n marks2
+parted_kept a b a2 b2 p m parted n marks marks1 marks2 old new k same e f longer d = shown_kept a2 b2 n marks2 (d.beside m.pairs left longer) (cleared_rows a a2 b b2 p e k.rows f)
   where
-    left : IsCover a2 m.pairs marks
-    left = subst (λ z. IsCover z m.pairs marks) (sym e) (covers_left a p m.pairs marks k.cover)
-
-    by : ((length n.pairs ≡ suc (length parted.pairs)) × (marks2 ≡ marks)) ⊎ ((n ≡ parted) × IsCover a2 n.pairs marks2) → IsCover a2 n.pairs marks2
-    by (inl (h, same)) = subst (IsCover a2 n.pairs) (sym same) (stands a2 m.pairs n.pairs marks left l.matching (h ∙ sym g))
-    by (inr (same, new)) = new
+    left : IsCover a2 m.pairs marks1
+    left = subst (IsCover a2 m.pairs) (sym same) (subst (λ z. IsCover z m.pairs marks) (sym e) (covers_left a p m.pairs marks k.cover))
 
 pub parted_unmatched : (a : Matrix) (p : Place) (m rest : List Place) → IsMatching a m → length m ≡ suc (length rest) → length rest < cols (without_place a p)
 parted_unmatched a p m rest k e = let few = matching_few a m k in let w = width a p in omega (arith, few, w, e)

@@ -9,8 +9,7 @@ use sp_ids::{OutOfMemory, Row};
 use std::alloc::Global;
 use std::marker::Model;
 
-/// Where the rows of a list stand in the array, how many they are, and for how many there is room
-/// before the next list.
+/// Where the rows of a list begin in the array, how many there are, and how many have room.
 #[derive(Clone, Copy, Debug)]
 pub struct Span {
     pub start: usize,
@@ -18,10 +17,10 @@ pub struct Span {
     pub room: u32,
 }
 
-/// Lists of rows in one array, each with room of its own. A list that needs more moves to the end
-/// of the array, and the room that it had there is not used again.
+/// Lists of rows in one array, each with room of its own. A list that needs more room moves to the
+/// end of the array, and its old room is not used again.
 ///
-/// It keeps 4 bytes a place of the array and 16 a list.
+/// It takes 4 bytes a place of the array and 16 a list.
 #[derive(Drop)]
 pub struct Arena {
     spans: Vec<Span>,
@@ -61,7 +60,7 @@ impl Arena {
         self.spans.len()
     }
 
-    /// How many places the array has, used or not.
+    /// The number of places of the array, used or not.
     pub fn slots(&self) -> usize {
         self.slots.len()
     }
@@ -102,8 +101,8 @@ impl Arena {
         Ok(())
     }
 
-    /// Moves a list to the end of the array, where it has this room. Want of memory leaves all as
-    /// it was.
+    /// Moves a list to the end of the array, where it has this room. If allocation fails, the lists
+    /// and their room stay as they were.
     pub fn widen(&mut self, list: usize, room: u32) -> Result<(), OutOfMemory>
         requires list { list < length self.old.lists }
         requires room { length (list_at self.old list) ≤ room }
@@ -126,7 +125,7 @@ impl Arena {
         Ok(())
     }
 
-    /// Puts a row into a list, before the one that stood at this place.
+    /// Inserts a row into a list, before the one at this place.
     pub fn insert(&mut self, list: usize, at: usize, row: Row)
         requires list { list < length self.old.lists }
         requires at { at ≤ length (list_at self.old list) }
@@ -145,7 +144,7 @@ impl Arena {
         };
     }
 
-    /// Takes the row at this place out of a list. Its room stays.
+    /// Removes the row at this place from a list. The list keeps its room.
     pub fn remove(&mut self, list: usize, at: usize)
         requires list { list < length self.old.lists }
         requires at { at < length (list_at self.old list) }

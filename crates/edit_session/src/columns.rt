@@ -13,11 +13,11 @@ use sp_pattern::{Neighbours, Pattern};
 use std::alloc::Global;
 use std::marker::Model;
 
-/// For each column of a matrix the rows of its entries, rising, which are put in and taken out one
+/// For each column of a matrix the rows of its entries, rising. Entries are inserted and removed one
 /// by one.
 ///
-/// All lists lie in one array, each with room to grow. It keeps at most some 24 bytes a column and
-/// 24 an entry of the most that the matrix had.
+/// All lists lie in one array, each with room to grow. They take at most some 24 bytes a column, and
+/// 24 for each of the most entries that the matrix has had.
 #[derive(Drop)]
 pub struct Columns {
     rows: u32,
@@ -46,7 +46,10 @@ impl Neighbours for Columns {
         self.rows
     }
 
-    fn cols(&self) -> u32 {
+    fn cols(&self) -> u32
+        ensures count { result ≡ cols self.now.matrix }
+        ensures pattern { IsPattern self.now.matrix }
+    {
         self.lists.len() as u32
     }
 
@@ -56,19 +59,19 @@ impl Neighbours for Columns {
 }
 
 impl Columns {
-    /// The columns of a matrix of so many entries, with room for a sixteenth more, so that the first
-    /// entries that come find it.
+    /// The columns of a matrix of so many entries, with room for a sixteenth more, which the first
+    /// new entries take.
     ///
-    /// Returns `OutOfMemory` if 16 bytes a column and 4.25 an entry cannot be allocated. Work:
-    /// one copy of the lists.
+    /// Returns `OutOfMemory` if it cannot allocate 16 bytes a column and 4.25 an entry. Work: one
+    /// copy of the lists.
     pub fn of<N: Neighbours>(
         alloc: Global,
         neighbours: &N,
         entries: u32,
     ) -> Result<Columns, OutOfMemory>
-        requires pattern { IsPattern (N.matrix neighbours.now) }
-        requires entries { entry_count (N.matrix neighbours.now) ≡ entries }
-        ensures { IfOk result (λ s. s.matrix ≡ N.matrix neighbours.now) }
+        requires { entry_count (N.matrix neighbours.now) ≡ entries }
+        ensures matrix { IfOk result (λ s. s.matrix ≡ N.matrix neighbours.now) }
+        ensures pattern { IfOk result (λ s. IsPattern s.matrix) }
     {
         let mut lists = no_lists(alloc, neighbours.cols(), entries)?;
         for col in 0..neighbours.cols() {
@@ -83,12 +86,12 @@ impl Columns {
 
     /// The columns of the transpose of a pattern: its rows, with room as in [`Columns::of`].
     ///
-    /// Returns `OutOfMemory` if 16 bytes a row, 4.25 an entry and a list of the longest row
-    /// cannot be allocated. Work: one copy of the lists.
+    /// Returns `OutOfMemory` if it cannot allocate 16 bytes a row, 4.25 an entry and a list of the
+    /// longest row. Work: one copy of the lists.
     pub fn of_rows(alloc: Global, pattern: &Pattern) -> Result<Columns, OutOfMemory>
+        requires { IsPattern pattern.now }
         ensures { IfOk result (λ s. s.matrix ≡ transpose pattern.now) }
     {
-        pattern.is_pattern();
         let entries = pattern.entries();
         let mut lists = no_lists(alloc, pattern.rows(), entries)?;
         let mut list = Vec::new(alloc);
@@ -103,14 +106,6 @@ impl Columns {
         })
     }
 
-    /// Its sizes fit 32 bits, and each column's list is the rising one of its entries: a fact for
-    /// proofs, at no cost.
-    pub fn is_pattern(&self)
-        ensures { IsPattern self.now.matrix }
-    {
-        let _entries = self.entries;
-    }
-
     /// The number of entries.
     pub fn entries(&self) -> u32
         ensures { result ≡ entry_count self.now.matrix }
@@ -118,19 +113,20 @@ impl Columns {
         self.entries
     }
 
-    /// Whether a place is an entry. Any row and column may be asked for.
+    /// Whether a place is an entry. The row and the column may be any numbers.
     pub fn has(&self, row: Row, col: Col) -> bool
-        ensures { IsTrue result ↔ IsEntry self.now.matrix row col }
+        ensures entry { IsTrue result ↔ IsEntry self.now.matrix row col }
+        ensures pattern { IsPattern self.now.matrix }
     {
         col.0 < self.cols() && self.find(row, col).is_ok()
     }
 
-    /// Sees to it that a column has room for one row more; the matrix stays.
+    /// Makes room for one row more in a column; the matrix stays.
     ///
-    /// A column that has none moves to the end of the array, with twice the room. Where the array
-    /// has grown past four times the entries and twice the columns, all lists are copied into a new
-    /// one first: that comes once in so many edits that their number pays for it. Returns
-    /// `OutOfMemory` if it cannot allocate the new room or the new array.
+    /// A column without room moves to the end of the array, with twice the room. If the array has
+    /// more places than four times the entries and twice the columns, all lists are copied into a
+    /// new array first. So many edits come between two such copies that each edit pays for a
+    /// constant part. Returns `OutOfMemory` if it cannot allocate the new room or the new array.
     pub fn make_room(&mut self, alloc: Global, col: Col) -> Result<(), OutOfMemory>
         requires col { col < cols self.old.matrix }
         requires few { length (column self.old.matrix col) < self.old.matrix.rows }
@@ -164,14 +160,13 @@ impl Columns {
     fn pack(&mut self, alloc: Global) -> Result<(), OutOfMemory>
         ensures matrix { self.new.matrix ≡ self.old.matrix }
     {
-        self.is_pattern();
         let packed = Columns::of(alloc, self, self.entries())?;
         self.lists = packed.lists;
         Ok(())
     }
 
-    /// Puts an entry in, unless it is there. The column must have room for it. Work: a search by
-    /// halves, and one move of each row of the column behind it.
+    /// Inserts an entry, unless it is there. The column must have room for it. Work: a binary search,
+    /// and one move of each row of the column behind it.
     pub fn insert(&mut self, row: Row, col: Col)
         requires row { row < self.old.matrix.rows }
         requires col { col < cols self.old.matrix }
@@ -185,12 +180,13 @@ impl Columns {
         }
     }
 
-    /// Takes an entry out, if it is there, and leaves its room to the column. Work: as for
+    /// Removes an entry, if it is there; the column keeps its room. Work: as for
     /// [`Columns::insert`].
     pub fn take(&mut self, row: Row, col: Col)
         requires col { col < cols self.old.matrix }
         ensures matrix { self.new.matrix ≡ without_place self.old.matrix (row, col) }
         ensures room { IsEntry self.old.matrix row col → HasRoom self.new col }
+        ensures pattern { IsPattern self.old.matrix }
     {
         if let Ok(at) = self.find(row, col) {
             self.lists.remove(col.0 as usize, at);

@@ -33,7 +33,6 @@ fn triples_of(alloc: Global, columns: &Columns) -> Result<Triples, OutOfMemory>
     ensures { IfOk result
         (λ t. HasPlaces t.rows t.cols (places t) columns.now.matrix) }
 {
-    columns.is_pattern();
     let mut triples = Triples::new(alloc, columns.rows(), columns.cols(), Field::Pattern)?;
     for col in 0..columns.cols() {
         push_column(&mut triples, columns.rows_of(Col(col)), Col(col))?;

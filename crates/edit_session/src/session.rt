@@ -3,12 +3,12 @@
 ghost use Rattle.std.specs.Prelude.{◌≡◌, ◌↔◌, ◌+◌, ◌<◌, ◌≤◌, length, IfOk, IsTrue, OnErr, OnOk, is_ok};
 ghost use Rattle.bip_defs.specs.ConnectedComponents.{AreConnectedComponents};
 ghost use Rattle.bip_defs.specs.EditedMatrix.{with_place, without_place};
-ghost use Rattle.bip_defs.specs.Lists.{Among};
-ghost use Rattle.bip_defs.specs.Matching.{IsRank};
+ghost use Rattle.bip_defs.specs.Lists.{Among, AreDistinct};
+ghost use Rattle.bip_defs.specs.Matching.{IsRank, cols_of};
 ghost use Rattle.bip_defs.specs.Matrix.{IsEntry, cols, entry_count};
 ghost use Rattle.bip_graph.specs.Decompositions.{Decomposes, components_of};
 ghost use Rattle.bip_graph.specs.Matching.{IsMaximumOf};
-ghost use Rattle.edit_session.specs.Sessions.{ClearSearches, IsKept, IsNewEntry, IsSettled, MatchedMatrix, NeedsNoSearch, SearchesFor, Searches};
+ghost use Rattle.edit_session.specs.Sessions.{ClearSearches, Clears, EntrySearches, HasNewEntry, HasSettled, IsWhole, MatchedMatrix, NeedsNoSearch, Searches};
 ghost use Rattle.vertex_cover.specs.Covers.{IsCover};
 ghost use Rattle.sp_ids.specs.Limits.{max_entries};
 
@@ -24,7 +24,7 @@ use std::alloc::Global;
 use std::marker::Model;
 use std::sync::ledger::Ledger;
 use std::thread::Threads;
-use vertex_cover::{Cover, cover_shows_maximum, cover_stands};
+use vertex_cover::Cover;
 
 /// A session of edits: a matrix whose entries are set and cleared one by one, and a maximum
 /// matching of it, which each edit keeps maximum.
@@ -37,45 +37,51 @@ use vertex_cover::{Cover, cover_shows_maximum, cover_stands};
 #[derive(Drop)]
 pub struct Session {
     alloc: Global,
+    kept: Kept,
+}
+
+impl Model for Session {
+    ghost use Rattle.edit_session.specs.Sessions.{IsWhole, MatchedMatrix, matched};
+
+    ghost Value = { MatchedMatrix };
+
+    ghost view = { λ s. matched s.kept.columns.matrix s.kept.matching s.kept.cover };
+
+    ghost invariant = { λ s. IsWhole s.kept };
+}
+
+// A matrix by its columns and by its rows, a matching of it, and a cover beside the matching. Within
+// an edit the matching need not be maximum.
+#[derive(Drop)]
+struct Kept {
     columns: Columns,
-    // those of the transpose
+    // the columns of the transpose
     rows: Columns,
     matching: Matching,
     cover: Cover,
 }
 
-impl Model for Session {
-    ghost use Rattle.edit_session.specs.Sessions.{IsKept, MatchedMatrix};
-
-    ghost Value = { MatchedMatrix };
-
-    ghost view = { λ s.
-        record { matrix = s.columns.matrix; matching = s.matching; marks = s.cover } };
-
-    ghost invariant = { λ s. IsKept s.columns.matrix s.rows.matrix s.matching s.cover };
-}
-
 impl Session {
     /// A session that begins with this matrix. The matching must be a maximum one of its entries.
     ///
-    /// Returns `OutOfMemory` if 44 bytes a column, 16 a row and 8.5 an entry cannot be
-    /// allocated. Work: one copy of the columns' lists and of the rows', and one search for the
-    /// cover.
+    /// Returns `OutOfMemory` if it cannot allocate 44 bytes a column, 16 a row and 8.5 an entry.
+    /// Work: one copy of the columns' lists and of the rows', and one search for the cover.
     pub fn new(alloc: Global, pattern: &Pattern, matching: Matching) -> Result<Session, OutOfMemory>
         requires { IsMaximumOf pattern.now matching }
         ensures matrix { IfOk result (λ s. s.matrix ≡ pattern.now) }
         ensures matching { IfOk result (λ s. s.matching ≡ matching) }
     {
-        pattern.is_pattern();
         let columns = Columns::of(alloc, pattern, pattern.entries())?;
         let rows = Columns::of_rows(alloc, pattern)?;
         let cover = Cover::of(alloc, pattern, &matching)?;
         Ok(Session {
             alloc,
-            columns,
-            rows,
-            matching,
-            cover,
+            kept: Kept {
+                columns,
+                rows,
+                matching,
+                cover,
+            },
         })
     }
 
@@ -83,21 +89,21 @@ impl Session {
     pub fn rows(&self) -> u32
         ensures { result ≡ self.now.matrix.rows }
     {
-        self.columns.rows()
+        self.kept.columns.rows()
     }
 
     /// The number of columns.
     pub fn cols(&self) -> u32
         ensures { result ≡ cols self.now.matrix }
     {
-        self.columns.cols()
+        self.kept.columns.cols()
     }
 
     /// The number of entries.
     pub fn entries(&self) -> u32
         ensures { result ≡ entry_count self.now.matrix }
     {
-        self.columns.entries()
+        self.kept.columns.entries()
     }
 
     /// The rank of the matrix.
@@ -107,7 +113,7 @@ impl Session {
         ensures maximum { IsMaximumOf self.now.matrix self.now.matching }
         ensures cover { IsCover self.now.matrix self.now.matching.pairs self.now.marks }
     {
-        self.matching.size()
+        self.kept.matching.size()
     }
 
     /// The decomposition of the matrix and the connected components of its outer parts: the report
@@ -126,9 +132,9 @@ impl Session {
             (λ o. AreConnectedComponents self.now.matrix (components_of o.1)) }
     {
         let alloc = self.alloc;
-        let pattern = pattern_of(rt, alloc, &self.columns)?;
-        let parts = coarse(rt, alloc, &pattern, &self.matching)?;
-        let blocks = fine(alloc, &pattern, &self.matching, &parts)?;
+        let pattern = pattern_of(rt, alloc, &self.kept.columns)?;
+        let parts = coarse(rt, alloc, &pattern, &self.kept.matching)?;
+        let blocks = fine(alloc, &pattern, &self.kept.matching, &parts)?;
         let components = components(alloc, &pattern, &parts)?;
         let decomposition = Decomposition {
             m: pattern.rows(),
@@ -165,12 +171,14 @@ impl Session {
     ///   columns are marked from then on, and no others.
     ///
     /// Returns `OutOfMemory` if it cannot allocate the entry; the session is then as it was. A
-    /// search takes none. Work: the search; where it begins at all unmatched columns, a look for
-    /// its mate at each column that was unmatched at the last such search, or at first when the
-    /// session began, and at each that a clear has left without one since, or at each column where
-    /// these are more than there are columns; once in some 2,000,000,000 edits a stamp at each
-    /// column; beside it a search by halves in the column and in the row and one move of each of
-    /// their entries, in the mean over many edits.
+    /// search allocates nothing.
+    ///
+    /// Work: the search; and a binary search in the column and in the row, with one move of each of
+    /// their entries, in the mean over many edits. A search from all unmatched columns also looks
+    /// for the mate of each column that was unmatched at the last such search (at first, when the
+    /// session began), and of each column that a clear has left without one since; if these are more
+    /// than the columns, of each column. Once in some 2,000,000,000 edits it writes a stamp for each
+    /// column.
     pub fn set<L: Ledger>(
         &mut self,
         row: Row,
@@ -188,33 +196,23 @@ impl Session {
         ensures no_search { NeedsNoSearch (row, col) self.old → steps.new ≡ steps.old }
         ensures searched { OnOk result (Searches (row, col) self.old self.new steps.old steps.new) }
     {
-        self.columns.is_pattern();
-        self.rows.is_pattern();
-        if self.columns.has(row, col) {
+        if self.kept.columns.has(row, col) {
             return Ok(self.rank());
         }
-        self.columns.make_room(self.alloc, col)?;
-        self.rows.make_room(self.alloc, Col(row.0))?;
-        self.columns.insert(row, col);
-        self.rows.insert(Row(col.0), Col(row.0));
-        match_entry(
-            &self.columns,
-            &self.rows,
-            &mut self.matching,
-            &mut self.cover,
-            row,
-            col,
-            steps,
-        );
+        self.kept.columns.make_room(self.alloc, col)?;
+        self.kept.rows.make_room(self.alloc, Col(row.0))?;
+        self.kept.columns.insert(row, col);
+        self.kept.rows.insert(Row(col.0), Col(row.0));
+        self.kept.match_entry(row, col, steps);
         Ok(self.rank())
     }
 
     /// Clears an entry, and gives the rank of the matrix then. Where there is none nothing changes.
     ///
     /// Steps are counted as in [`Session::set`]. There is no search where the entry was no pair of
-    /// the matching, and one from the other pairs where it was: from its column alone where that was
-    /// not marked, from its row alone where it was. Takes no memory, so it is never refused. Work:
-    /// the search, and in the lists as there.
+    /// the matching. Where it was one, a search begins beside the other pairs: at its column alone if
+    /// that was unmarked, and at its row alone if it was marked. A clear allocates nothing, so it is
+    /// never refused. Work: the search, and in the lists as for `set`.
     pub fn clear<L: Ledger>(
         &mut self,
         row: Row,
@@ -231,10 +229,9 @@ impl Session {
         ensures searched { OnOk result
             (ClearSearches (row, col) self.old self.new steps.old steps.new) }
     {
-        if self.columns.has(row, col) {
+        if self.kept.columns.has(row, col) {
             return self.clear_entry(row, col, steps);
         }
-        self.columns.is_pattern();
         Ok(self.rank())
     }
 
@@ -247,103 +244,85 @@ impl Session {
     ) -> Result<u32, OutOfMemory>
         requires entry { IsEntry self.old.matrix row col }
         ensures ok { IsTrue (is_ok result) }
-        ensures matrix { OnOk result (self.new.matrix ≡ without_place self.old.matrix (row, col)) }
         ensures rank { IfOk result (IsRank self.new.matrix) }
-        ensures unchanged { OnErr result (self.new ≡ self.old) }
-        ensures steps { steps.new
-            ≤ steps.old + (cols self.old.matrix + entry_count self.old.matrix) }
-        ensures no_step { ¬ Among (row, col) self.old.matching.pairs → steps.new ≡ steps.old }
-        ensures searched { OnOk result
-            (ClearSearches (row, col) self.old self.new steps.old steps.new) }
+        ensures clears { Clears (row, col) self.old self.new steps.old steps.new }
     {
-        cover_shows_maximum();
-        cover_stands();
-        self.matching.is_matching();
-        self.columns.is_pattern();
-        let were_mates = are_mates(&self.matching, row, col);
-        self.columns.take(row, col);
-        self.rows.take(Row(col.0), Col(row.0));
+        let were_mates = are_mates(&self.kept.matching, row, col);
+        self.kept.columns.take(row, col);
+        self.kept.rows.take(Row(col.0), Col(row.0));
         if !were_mates {
             return Ok(self.rank());
         }
-        self.matching.unpair(row, col);
-        self.matching.is_matching();
-        self.cover.add_root(col);
-        let columns = &self.columns;
-        let matching = &mut self.matching;
-        if !self.cover.is_marked(col) {
-            self.cover.augment_from(columns, matching, col, steps);
+        self.kept.matching.unpair(row, col);
+        self.kept.cover.add_root(col);
+        let columns = &self.kept.columns;
+        let matching = &mut self.kept.matching;
+        if !self.kept.cover.is_marked(col) {
+            self.kept.cover.augment_from(columns, matching, col, steps);
             return Ok(self.rank());
         }
-        self.cover
-            .augment_to(columns, &self.rows, matching, row, steps);
+        self.kept
+            .cover
+            .augment_to(columns, &self.kept.rows, matching, row, steps);
         Ok(self.rank())
     }
 }
 
 // Whether a row and a column are a pair.
 fn are_mates(matching: &Matching, row: Row, col: Col) -> bool
-    requires { col < matching.now.cols }
+    requires col { col < matching.now.cols }
+    requires cols_differ { AreDistinct (cols_of matching.now.pairs) }
     ensures { IsTrue result ↔ Among (row, col) matching.now.pairs }
 {
-    matching.is_matching();
     match matching.row_of(col) {
         Some(mate) => mate.0 == row.0,
         None => false,
     }
 }
 
-// Makes a matching maximum where one more entry is new: it is, where the cover of the others has the
-// entry, or where each row or each column is matched, and then all columns are marked, or none; the
-// entry's row and column become a pair where both have no mate; else a search decides, from the one
-// of them that has none, or from the row's mate where both have one, and then from all unmatched
-// columns where it comes to an unmatched row.
-fn match_entry<L: Ledger>(
-    columns: &Columns,
-    rows: &Columns,
-    matching: &mut Matching,
-    cover: &mut Cover,
-    row: Row,
-    col: Col,
-    steps: &mut Steps<L>,
-)
-    requires { IsNewEntry (row, col) columns.now.matrix rows.now.matrix matching.old cover.old }
-    ensures kept { IsKept columns.now.matrix rows.now.matrix matching.new cover.new }
-    ensures steps { steps.new
-        ≤ steps.old + (cols columns.now.matrix + entry_count columns.now.matrix) }
-    ensures no_search { IsSettled (row, col) columns.now.matrix matching.old.pairs cover.old
-        → steps.new ≡ steps.old }
-    ensures searched { ¬ IsSettled (row, col) columns.now.matrix matching.old.pairs cover.old
-        → SearchesFor (row, col) columns.now.matrix matching.old.pairs cover.old
-        matching.new.pairs cover.new steps.old steps.new }
-{
-    cover_shows_maximum();
-    cover_stands();
-    columns.is_pattern();
-    if cover.has(matching, row, col) {
-        return;
-    }
-    if matching.size() == columns.rows() {
-        cover.mark_all(columns, matching);
-        return;
-    }
-    if matching.size() == columns.cols() {
-        cover.mark_none(columns, matching);
-        return;
-    }
-    let row_is_free = matching.col_of(row).is_none();
-    if matching.row_of(col).is_some() {
-        if row_is_free {
-            cover.augment_to(columns, rows, matching, row, steps);
-        } else {
-            cover.augment_over(columns, matching, row, col, steps);
+impl Kept {
+    // Makes the matching maximum where one more entry is new. It is maximum already where the cover of
+    // the others has the entry, or where each row or each column is matched; in the second case all
+    // columns are marked, or none. The entry's row and column become a pair where both have no mate.
+    // Else a search decides: from the one of them that has no mate, or from the row's mate where both
+    // have one, and then from all unmatched columns where it comes to an unmatched row.
+    fn match_entry<L: Ledger>(&mut self, row: Row, col: Col, steps: &mut Steps<L>)
+        requires { HasNewEntry (row, col) self.old }
+        ensures columns { self.new.columns ≡ self.old.columns }
+        ensures kept { IsWhole self.new }
+        ensures steps { steps.new ≤ steps.old
+            + (cols self.old.columns.matrix + entry_count self.old.columns.matrix) }
+        ensures no_search { HasSettled (row, col) self.old → steps.new ≡ steps.old }
+        ensures searched { EntrySearches (row, col) self.old self.new steps.old steps.new }
+    {
+        let columns = &self.columns;
+        let rows = &self.rows;
+        let matching = &mut self.matching;
+        let cover = &mut self.cover;
+        if cover.has(matching, row, col) {
+            return;
         }
-        return;
+        if matching.size() == columns.rows() {
+            cover.mark_all(columns, matching);
+            return;
+        }
+        if matching.size() == columns.cols() {
+            cover.mark_none(columns, matching);
+            return;
+        }
+        let row_is_free = matching.col_of(row).is_none();
+        if matching.row_of(col).is_some() {
+            if row_is_free {
+                cover.augment_to(columns, rows, matching, row, steps);
+            } else {
+                cover.augment_over(columns, matching, row, col, steps);
+            }
+            return;
+        }
+        if !row_is_free {
+            cover.augment_from(columns, matching, col, steps);
+            return;
+        }
+        matching.pair(row, col);
     }
-    if !row_is_free {
-        cover.augment_from(columns, matching, col, steps);
-        return;
-    }
-    matching.pair(row, col);
-    matching.is_matching();
 }
