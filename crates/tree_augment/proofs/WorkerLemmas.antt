@@ -5,21 +5,21 @@ use Rattle.std.proofs.lemmas.Slice.Zip.{AllZip-long}
 use Rattle.bip_defs.specs.Forest.{State, roots_of}
 use Rattle.bip_defs.specs.Lists.{Among}
 use Rattle.flip_words.specs.Board.{Board, col_vertex}
-use Rattle.flip_words.specs.Seat.{HasSetTo, HoldsAllSeats, IsRightful, IsSameSeat, Seat, Took}
+use Rattle.flip_words.specs.Seat.{HasSetTo, HoldsAllSeats, IsSameSeat, Seat, Took}
 use Rattle.level_sharing.specs.Each.{EachFrom, EachPairFrom}
-use Rattle.tree_augment.specs.Augmented.{ExchangesItsPaths, HasAsked, HaveAugmented, HaveTakenNone, IsOnTakenPath, once_round}
+use Rattle.tree_augment.specs.Augmented.{ExchangesItsPaths, HasAsked, HasTakenNone, HaveAugmented, HaveTakenNone, IsOnTakenPath, once_round}
 use Rattle.tree_augment.specs.ForestBoards.{IsBoardOf}
 use Rattle.tree_augment.specs.Rounds.{CanGoRound, HasGoneRound}
 use Rattle.tree_augment.proofs.RoundLemmas.{asked_met, has_asked, round_has}
 
 -- Seats that have taken nothing.
 
-module _ {t : Seat} (own : IsRightful t) (none : t.listed.taken ≡ []) where
+module _ (t : Seat) (none : HasTakenNone t) where
   took_none : (x : ℕ) → ¬ Took t x
-  took_none x h = subst (Among (x, t.number)) none h
+  took_none x h = subst (Among (x, t.number)) none.0 h
 
   set_none : (v mate : ℕ) → ¬ HasSetTo t v mate
-  set_none v mate h = let (x, tree, took) = own.sets v mate h in took_none x took
+  set_none v mate h = subst (Among (v, mate)) none.1 h
 
   pub no_paths : (s : State) (b : Board) → ExchangesItsPaths s b t
   no_paths s b = record {
@@ -28,14 +28,14 @@ module _ {t : Seat} (own : IsRightful t) (none : t.listed.taken ≡ []) where
     cols = λ r c. (λ h. absurd (set_none (col_vertex b c) r h), λ (h : IsOnTakenPath s t (r, c)). absurd (took_none h.0 h.1));
   }
 
-ready_from : {s : State} {b : Board} (workers n : ℕ) (ts : List Seat) → IsBoardOf s b → n + length ts ≤ workers → ((t : Seat) → Among t ts → (t.board ≡ b) × (t.listed.taken ≡ [])) → EachFrom (λ k t. CanGoRound s b workers k t) n ts
+ready_from : {s : State} {b : Board} (workers n : ℕ) (ts : List Seat) → IsBoardOf s b → n + length ts ≤ workers → ((t : Seat) → Among t ts → (t.board ≡ b) × HasTakenNone t) → EachFrom (λ k t. CanGoRound s b workers k t) n ts
 ready_from workers n [] of few each = tt
 ready_from workers n (t ∷ ts) of few each = (
   record { board = of; few = omega (arith, few); seat = (each t (inl refl)).0; none_taken = (each t (inl refl)).1 },
   ready_from workers (suc n) ts of (omega (arith, few)) (λ u h. each u (inr h)),
 )
 
-pub ready : {s : State} {b : Board} (ts : List Seat) → IsBoardOf s b → HoldsAllSeats b ts → ((t : Seat) → Among t ts → t.listed.taken ≡ []) → EachFrom (λ k t. CanGoRound s b (length ts) k t) 0 ts
+pub ready : {s : State} {b : Board} (ts : List Seat) → IsBoardOf s b → HoldsAllSeats b ts → HaveTakenNone ts → EachFrom (λ k t. CanGoRound s b (length ts) k t) 0 ts
 ready ts of all none = ready_from (length ts) 0 ts of (omega arith) (λ t h. (all.boards t h, none t h))
 
 -- Seats after their rounds.
@@ -58,7 +58,7 @@ module _ (s : State) (b : Board) (workers : ℕ) where
   rounds n [] [] h none = tt
   rounds n [] (u ∷ us) h none = absurd h
   rounds n (t ∷ ts) [] h none = absurd h
-  rounds n (t ∷ ts) (u ∷ us) h none = (has_asked (none t (inl refl)) h.0.asked, rounds (suc n) ts us h.1 (λ v i. none v (inr i)))
+  rounds n (t ∷ ts) (u ∷ us) h none = (has_asked (none t (inl refl)).0 h.0.asked, rounds (suc n) ts us h.1 (λ v i. none v (inr i)))
 
 pub augmented : {s : State} {b : Board} (ts us : List Seat) → HaveTakenNone ts → EachPairFrom (λ k t u. HasGoneRound s b (length ts) k t u) 0 ts us → (AllZip IsSameSeat ts us → HoldsAllSeats b us) → HaveAugmented s b us
 augmented {s = s} {b = b} ts us none h all = record {

@@ -12,7 +12,6 @@ ghost use Rattle.tree_augment.specs.Augmented.{HaveAugmented};
 ghost use Rattle.tree_augment.specs.ForestBoards.{IsBoardOf};
 
 use flip_words::{each_tree_has_one_taker, mates_are_those_set};
-use forest_core::{leaves_end_paths, sound_forests_have_trees};
 
 /// Once its seats have augmented a forest, a board closes with the mates of the forest's base
 /// matching in which the path of every leaf is exchanged.
@@ -20,8 +19,6 @@ pub fn closed_mates_are_exchanged()
     ensures { (s : State) (b : Board) (ts : List Seat) (m : Mated) → IsSound s → IsBoardOf s b
         → HaveAugmented s b ts → SettlesAll b m ts → AreExchanged s m }
 {
-    sound_forests_have_trees();
-    leaves_end_paths();
     each_tree_has_one_taker();
     mates_are_those_set();
 }
