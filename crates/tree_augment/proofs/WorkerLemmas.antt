@@ -4,12 +4,15 @@ use Rattle.std.specs.List.{AllZip}
 use Rattle.std.proofs.lemmas.Slice.Zip.{AllZip-long}
 use Rattle.bip_defs.specs.Forest.{State, roots_of}
 use Rattle.bip_defs.specs.Lists.{Among}
+use Rattle.bip_graph.specs.Mates.{Mated}
+use Rattle.flip_words.specs.ClosedBoards.{AreMatesAfter, HaveOneTakerEach, SettlesAll}
 use Rattle.flip_words.specs.Board.{Board, col_vertex}
 use Rattle.flip_words.specs.Seat.{HasSetTo, HoldsAllSeats, IsSameSeat, Seat, Took}
 use Rattle.level_sharing.specs.Each.{EachFrom, EachPairFrom}
-use Rattle.tree_augment.specs.Augmented.{ExchangesItsPaths, HasAsked, HasTakenNone, HaveAugmented, HaveTakenNone, IsOnTakenPath, once_round}
+use Rattle.tree_augment.specs.Augmented.{ExchangesItsPaths, HasAsked, HasMet, HasTakenNone, HaveAugmented, HaveTakenNone, IsOnTakenPath, once_round}
 use Rattle.tree_augment.specs.ForestBoards.{IsBoardOf}
-use Rattle.tree_augment.specs.Rounds.{CanGoRound, HasGoneRound}
+use Rattle.tree_augment.specs.Rounds.{CanGoRound, HasGoneRound, HaveGoneRound}
+use Rattle.tree_augment.proofs.ClosedBoards.{exchanged_mates}
 use Rattle.tree_augment.proofs.RoundLemmas.{asked_met, has_asked, round_has}
 
 -- Seats that have taken nothing.
@@ -60,10 +63,23 @@ module _ (s : State) (b : Board) (workers : ℕ) where
   rounds n (t ∷ ts) [] h none = absurd h
   rounds n (t ∷ ts) (u ∷ us) h none = (has_asked (none t (inl refl)).0 h.0.asked, rounds (suc n) ts us h.1 (λ v i. none v (inr i)))
 
-pub augmented : {s : State} {b : Board} (ts us : List Seat) → HaveTakenNone ts → EachPairFrom (λ k t u. HasGoneRound s b (length ts) k t u) 0 ts us → (AllZip IsSameSeat ts us → HoldsAllSeats b us) → HaveAugmented s b us
-augmented {s = s} {b = b} ts us none h all = record {
-  all = all (same_seats s b (length ts) 0 ts us h);
-  rounds = subst (λ n. EachFrom (λ (k : ℕ). HasAsked (roots_of (once_round s.leaves n k))) 0 us) (sym (AllZip-long IsSameSeat ts us (same_seats s b (length ts) 0 ts us h))) (rounds s b (length ts) 0 ts us h none);
-  met = λ u x i leaf. let (k, t, went) = gone s b (length ts) 0 ts us h u i in asked_met x went.asked (round_has (k * length s.leaves / length ts) x s.leaves leaf);
-  paths = λ u i. let (k, t, went) = gone s b (length ts) 0 ts us h u i in went.paths;
+pub augmented : {s : State} {b : Board} (ts us : List Seat) → IsBoardOf s b → HaveTakenNone ts → HaveGoneRound s b ts us → (AllZip IsSameSeat ts us → HoldsAllSeats b us) → ((m : Mated) → HoldsAllSeats b us → SettlesAll b m us → HaveOneTakerEach us) → ((m : Mated) → SettlesAll b m us → AreMatesAfter b us m) → HaveAugmented s b us
+augmented {s = s} {b = b} ts us of none h all one after = record {
+  all = all_seats;
+  rounds = subst (λ n. EachFrom (λ (k : ℕ). HasAsked (roots_of (once_round s.leaves n k))) 0 us) (sym (AllZip-long IsSameSeat ts us same)) (rounds s b (length ts) 0 ts us h none);
+  met = met;
+  paths = paths;
+  exchanged = λ m e. exchanged_mates of all_seats met paths (one m all_seats e) (after m e) e;
 }
+  where
+    same : AllZip IsSameSeat ts us
+    same = same_seats s b (length ts) 0 ts us h
+
+    all_seats : HoldsAllSeats b us
+    all_seats = all same
+
+    met : (u : Seat) (x : ℕ) → Among u us → Among x (roots_of s.leaves) → HasMet u x
+    met u x i leaf = let (k, t, went) = gone s b (length ts) 0 ts us h u i in asked_met x went.asked (round_has (k * length s.leaves / length ts) x s.leaves leaf)
+
+    paths : (u : Seat) → Among u us → ExchangesItsPaths s b u
+    paths u i = let (k, t, went) = gone s b (length ts) 0 ts us h u i in went.paths

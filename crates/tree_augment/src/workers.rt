@@ -5,8 +5,9 @@ ghost use Rattle.flip_words.specs.Seat.{HoldsAllSeats};
 ghost use Rattle.tree_augment.specs.Augmented.{HaveAugmented, HaveTakenNone};
 ghost use Rattle.tree_augment.specs.ForestBoards.{IsBoardOf};
 
+use crate::laws::rounds_augment;
 use crate::rounds::go_round;
-use flip_words::{FlipBoard, FlipSeat, seats_are_few, seats_stay_all};
+use flip_words::{FlipBoard, FlipSeat, seats_are_few};
 use forest_core::Forest;
 use level_sharing::{Sharing, Work, share_start, share_work};
 use sp_ports::Gate;
@@ -79,7 +80,7 @@ pub fn augment_under<R: Threads + Sync, G: Gate>(
     requires none_taken { HaveTakenNone seats.old }
     ensures { HaveAugmented forest.entry.now board.entry.now seats.new }
 {
-    seats_stay_all();
+    rounds_augment();
     seats_are_few(seats);
     let rounds = Rounds {
         forest,

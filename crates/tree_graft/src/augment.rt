@@ -18,7 +18,7 @@ use sp_ids::OutOfMemory;
 use sp_ports::Gate;
 use std::alloc::Global;
 use std::thread::Threads;
-use tree_augment::{augment_under, closed_mates_are_exchanged, open};
+use tree_augment::{augment_under, open};
 
 /// Exchanges the path of each root with a leaf, by workers at once, and then keeps the trees
 /// without a leaf, where fewer than five rows are freed for each column in them, or frees all rows.
@@ -61,7 +61,6 @@ fn exchanged_mates<R: Threads + Sync, G: Gate>(
     requires flipped { forest.now.flipped ≡ [] }
     ensures { IfOk result (λ mates. AreExchanged forest.now mates) }
 {
-    closed_mates_are_exchanged();
     let (board, mut seats) = open(rt, alloc, forest, workers, sharing.worth_threads)?;
     augment_under(rt, forest, &board, seats.as_mut_slice(), sharing);
     match board.close(alloc, seats) {
