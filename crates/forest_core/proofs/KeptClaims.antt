@@ -84,7 +84,7 @@ pub root_here : (roots leaf_of : List (Option ℕ)) (old now : List Place) (xs :
 root_here roots leaf_of old now xs t i stay p x k lt is at =
     ap (λ (q : Place). beside roots q.0) (get_or_read now i p lt is (0, 0)) ∙ k.rooted i (inr (omega arith)) lt ∙ ap (λ (y : ℕ). Some y) (sym (get_or_read xs i x (omega (arith, lt, k.long)) at 0))
 
--- whether that root has a leaf, as it is told
+-- the answer says whether that root has a leaf
 pub leaf_known : (roots leaf_of : List (Option ℕ)) (p : Place) (x : ℕ) (o : Option ℕ) (fact b : Bool) → beside roots p.0 ≡ Some x → o ≡ beside leaf_of x → fact ≡ is_some o → fact ≡ b → root_has_leaf leaf_of (beside roots p.0) ≡ b
 leaf_known roots leaf_of p x o fact b root e f g = ap (root_has_leaf leaf_of) root ∙ ap is_some (sym e) ∙ sym f ∙ g
 

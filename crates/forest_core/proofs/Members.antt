@@ -44,6 +44,6 @@ pub is_not : (b : Bool) → ¬ (b ≡ true) → not b ≡ true
 is_not true n = absurd (n refl)
 is_not false n = refl
 
--- no other answer than true, where false is told
+-- where the answer is false, it is not true
 pub known_false : {P : Type 0} → false ≡ true → P
 known_false e = absurd (true≢false (sym e))

@@ -47,6 +47,10 @@ kept_from s k roots leaf_of are won (p ∷ ps) all = by (root_has_leaf leaf_of (
 pub kept_stored : (s : State) (m : Pairing) (t : Tables) → IsStored s m t → AreKept s s.claims (kept t.claimed.roots t.leaf_of s.claims)
 kept_stored s m t k = kept_from s k.sound t.claimed.roots t.leaf_of k.rooted k.won s.claims (λ p h. h)
 
+-- a row with a root is claimed
+pub tables_alike : (s : State) (m : Pairing) (t : Tables) → IsStored s m t → AreAlike t.claimed
+tables_alike s m t k r x e = let (d, h, w) = (k.rooted r x).0 e in (d, (k.held r d).1 h)
+
 -- Exchanging.
 
 can_exchange : (s : State) (m : Pairing) (adopted : Option Adopted) (t : Tables) → IsStored s m t → IsAdopted s adopted → CanExchange s m adopted t.claimed.holders t.leaf_of s.flipped

@@ -1,18 +1,19 @@
 -- What contracts see of a forest, and what holds of its fields.
-use Rattle.std.specs.Prelude.{◌≤◌, vec_capacity}
+use Rattle.std.specs.Prelude.{◌≤◌, ◌<◌, ◌^◌, vec_capacity}
 use Rattle.bip_defs.specs.Matrix.{cols}
 use Rattle.bip_defs.specs.Forest.{State}
 use Rattle.forest_core.specs.Adopted.{IsAdopted}
 use Rattle.forest_core.specs.Stored.{IsStored, Tables}
 use Rattle.forest_core.specs.declared.forest.Forest.TheInside.{Inside}
 
--- room for as many claims and leaves as there can be
+-- room for as many claims and leaves as there can be, and rows and columns that 32 bits number
 pub record HasRoom (f : Inside) : Type 0 where
   pub claims : f.pattern.now.rows ≤ vec_capacity f.claims
   pub claim_roots : f.pattern.now.rows ≤ vec_capacity f.claim_roots
   pub path : f.pattern.now.rows ≤ vec_capacity f.path
   pub leaves : cols f.pattern.now ≤ vec_capacity f.leaves
   pub flipped : cols f.pattern.now ≤ vec_capacity f.flipped
+  pub few : (f.pattern.now.rows < 2 ^ 32) × (cols f.pattern.now < 2 ^ 32)
 
 abbrev pub state_of : Inside → State
 state_of f = record {

@@ -4,7 +4,7 @@ use Rattle.bip_defs.specs.Lists.{Among, AreDistinct}
 use Rattle.bip_defs.specs.Matching.{rows_of}
 use Rattle.bip_defs.specs.Matrix.{Place}
 use Rattle.forest_core.specs.Stored.{AreClaimRoots}
-use Rattle.forest_core.specs.Tables.{Claimed, IsTableOf, beside}
+use Rattle.forest_core.specs.Tables.{AreAlike, Claimed, IsTableOf, beside}
 
 -- whether a root has a leaf, where there is a root
 abbrev pub root_has_leaf : List (Option ℕ) → Option ℕ → Bool
@@ -31,3 +31,4 @@ pub record AreClaimsIn (claimed : Claimed) (leaf_of : List (Option ℕ)) (claims
   pub in_range : (x : ℕ) → Among x xs → x < length leaf_of
   pub differ : AreDistinct (rows_of claims)
   pub holders : IsTableOf claims claimed.holders
+  pub alike : AreAlike claimed

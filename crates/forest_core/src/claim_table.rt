@@ -55,14 +55,6 @@ impl ClaimTable {
         self.rows.len()
     }
 
-    /// What holds of every table: a fact for proofs, at no cost.
-    pub fn is_alike(&self)
-        ensures alike { AreAlike self.now }
-        ensures long { length self.now.roots ≡ length self.now.holders }
-    {
-        prove!(self.rows.len() == self.len());
-    }
-
     /// The column that claimed a row, where the row is claimed.
     pub fn holder(&self, row: Row) -> Option<Col>
         requires { row < length self.now.holders }
@@ -114,6 +106,7 @@ impl ClaimTable {
         requires holder { holder < 4294967295 }
         ensures holders { self.new.holders ≡ set self.old.holders row (Some holder) }
         ensures roots { self.new.roots ≡ set self.old.roots row (Some root) }
+        ensures long { length self.old.roots ≡ length self.old.holders }
     {
         self.rows[row.number() as usize] = RowClaim {
             holder: holder.number(),
@@ -126,6 +119,7 @@ impl ClaimTable {
         requires { row < length self.old.holders }
         ensures holders { self.new.holders ≡ set self.old.holders row None }
         ensures roots { self.new.roots ≡ set self.old.roots row None }
+        ensures alike { AreAlike self.new }
     {
         self.rows[row.number() as usize] = NONE;
     }
@@ -134,6 +128,7 @@ impl ClaimTable {
     pub fn clear_all(&mut self)
         ensures length { length self.new.holders ≡ length self.old.holders }
         ensures none { (r : ℕ) → beside self.new.holders r ≡ None }
+        ensures alike { AreAlike self.new }
     {
         self.rows.as_mut_slice().fill(NONE);
     }

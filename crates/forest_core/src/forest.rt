@@ -2,16 +2,17 @@
 
 ghost use Rattle.std.specs.Prelude.{◌≡◌, ◌↔◌, ℕ, ◌+◌, ◌<◌, length, ◌∷◌, ◌++◌, [], IsTrue, IfOk, IfSome, IfNone};
 ghost use Rattle.bip_defs.specs.Lists.{Among};
-ghost use Rattle.bip_defs.specs.Matching.{rows_of, cols_of};
+ghost use Rattle.bip_defs.specs.Matching.{Covers, rows_of, cols_of};
 ghost use Rattle.bip_defs.specs.Matrix.{cols};
 ghost use Rattle.bip_graph.specs.Matching.{IsMatchingOf};
 ghost use Rattle.forest_core.specs.Current.{IsCurrent, base_of};
 ghost use Rattle.forest_core.specs.Events.{AreFlipped, AreKept, Becomes, Grows, IsClosed, IsLegal, IsRenewed, Runs};
 ghost use Rattle.forest_core.specs.Exchanged.{AreExchanged, all_flipped, flip_events, unflipped};
+ghost use Rattle.forest_core.specs.Growing.{LeadsOn};
 ghost use Rattle.forest_core.specs.Sound.{IsSound};
 ghost use Rattle.forest_core.specs.Stored.{IsRootOfClaim};
 ghost use Rattle.forest_core.specs.Trees.{HasTrees};
-ghost use Rattle.bip_defs.specs.Forest.{InForest, IsRootOfRow, IsUsedUp, RootOf, new_forest, roots_of};
+ghost use Rattle.bip_defs.specs.Forest.{InForest, IsRested, IsRootOfRow, IsSettled, IsUsedUp, RootOf, new_forest, roots_of};
 ghost use Rattle.sp_ids.specs.declared.events.Event.TheVariants.{Claim, Win, Flip, Graft, Rebuild, Done};
 
 use crate::adopted::Adopted;
@@ -104,7 +105,8 @@ impl<'p> Forest<'p> {
 
     /// The base matching. Flips do not change it; a graft or a rebuild renews it.
     pub fn base(&self) -> &Matching
-        ensures { result.now ≡ base_of self.now }
+        ensures base { result.now ≡ base_of self.now }
+        ensures trees { HasTrees self.now }
     {
         &self.base
     }
@@ -129,9 +131,26 @@ impl<'p> Forest<'p> {
 
     /// The roots with a leaf, each with its leaf, in the order in which these were won.
     pub fn leaves(&self) -> &[(Col, Row)]
-        ensures { result.now ≡ self.now.leaves }
+        ensures leaves { result.now ≡ self.now.leaves }
+        ensures trees { HasTrees self.now }
     {
         self.leaves.as_slice()
+    }
+
+    // The number of rows of its pattern.
+    pub(crate) fn rows(&self) -> u32
+        ensures rows { result ≡ self.now.matrix.rows }
+        ensures trees { HasTrees self.now }
+    {
+        self.pattern.rows()
+    }
+
+    // The number of columns of its pattern.
+    pub(crate) fn cols(&self) -> u32
+        ensures cols { result ≡ cols self.now.matrix }
+        ensures trees { HasTrees self.now }
+    {
+        self.pattern.cols()
     }
 
     /// What holds of every forest: a fact for proofs, at no cost.
@@ -176,8 +195,7 @@ impl<'p> Forest<'p> {
         ensures in_forest { IfSome result (λ _. InForest self.now col) }
         ensures none { IfNone result (¬ InForest self.now col) }
     {
-        self.is_sound();
-        match self.base_row(col) {
+        match self.base.row_of(col) {
             Some(row) => self.root_of_row(row),
             None => Some(col),
         }
@@ -283,8 +301,7 @@ impl<'p> Forest<'p> {
         ensures tree { IsTrue result ↔ IsRootOfRow self.now.base self.now.claims root row }
         ensures row { IsTrue result → row < self.now.matrix.rows }
     {
-        self.is_sound();
-        if row.number() >= self.pattern().rows() {
+        if row.number() >= self.rows() {
             return false;
         }
         match self.root_of_row(row) {
@@ -298,8 +315,7 @@ impl<'p> Forest<'p> {
         ensures leaf { IsTrue result ↔ Among root (roots_of self.now.leaves) }
         ensures root { IsTrue result → root < cols self.now.matrix }
     {
-        self.is_sound();
-        if root.number() >= self.pattern().cols() {
+        if root.number() >= self.cols() {
             return false;
         }
         self.leaf(root).is_some()
@@ -309,7 +325,6 @@ impl<'p> Forest<'p> {
     fn are_flipped(&self) -> bool
         ensures { IsTrue result ↔ AreFlipped self.now }
     {
-        self.is_sound();
         let leaves = self.leaves();
         for (root, _) in leaves {
             if !self.flipped(*root) {
@@ -362,7 +377,6 @@ impl<'p> Forest<'p> {
         ensures root { RootOf self.now.base self.now.claims result col }
         ensures in_range { result < cols self.now.matrix }
     {
-        self.is_sound();
         match self.base_row(col) {
             Some(row) => self.claimed.root_at(row),
             None => col,
@@ -377,8 +391,6 @@ impl<'p> Forest<'p> {
         ensures claims { Becomes self.old (Claim row col) self.new }
     {
         let root = self.root(col);
-        self.pattern.is_pattern();
-        self.claimed.is_alike();
         self.claimed.write(row, col, root);
         self.claims.push_reserved((row, col));
         self.claim_roots.push_reserved(root);
@@ -391,14 +403,13 @@ impl<'p> Forest<'p> {
         ensures grows { Grows self.old self.new }
         ensures leaves { Becomes self.old (Win root leaf) self.new }
     {
-        self.pattern.is_pattern();
         self.leaf_of.write(root.number(), leaf.number());
         self.leaves.push_reserved((root, leaf));
     }
 
     /// Exchanges the path of a root with a leaf: it belongs to the current matching from now on.
     /// The base matching stays. Takes no memory. Work: constant; the matching itself is written
-    /// when it is asked for.
+    /// by `graft`, `rebuild` and `into_matching`.
     pub fn flip(&mut self, root: Col)
         requires { IsLegal self.old (Flip root) }
         ensures { self.new ≡ record self.old { flipped = self.old.flipped ++ root ∷ [] } }
@@ -419,8 +430,8 @@ impl<'p> Forest<'p> {
         ensures flipped { self.new ≡ all_flipped self.old }
         ensures all { AreFlipped self.new }
         ensures size { length self.new.flipped ≡ length self.old.leaves }
+        ensures leads { LeadsOn self.old self.new }
     {
-        self.is_sound();
         self.flip_all();
         let matching = Matching::of(mates);
         matching.is_matching();
@@ -430,9 +441,9 @@ impl<'p> Forest<'p> {
 
     // Flips each root with a leaf that is not flipped.
     fn flip_all(&mut self)
-        ensures { self.new ≡ all_flipped self.old }
+        ensures flipped { self.new ≡ all_flipped self.old }
+        ensures trees { HasTrees self.old }
     {
-        self.is_sound();
         for i in 0..self.leaves().len() {
             let (root, _) = self.leaves()[i];
             if !self.flipped(root) {
@@ -442,7 +453,7 @@ impl<'p> Forest<'p> {
     }
 
     /// The current matching becomes the base, and the claims of trees without a leaf stay: the
-    /// others, the leaves and the flipped roots are gone.
+    /// others, the leaves and the flipped roots are dropped.
     ///
     /// Takes no memory. Work: one look at each claim and each leaf, and three writes at most for
     /// each pair of the path of a root that was flipped after the last adoption.
@@ -451,6 +462,9 @@ impl<'p> Forest<'p> {
         ensures renewed { IsRenewed self.old self.new }
         ensures claims { AreKept self.old self.old.claims self.new.claims }
         ensures size { length self.new.base ≡ length self.old.base + length self.old.flipped }
+        ensures covered { Covers self.old.base self.new.base }
+        ensures rested { IsSettled self.old → IsRested self.new }
+        ensures leads { LeadsOn self.old self.new }
     {
         let flipped = Flipped {
             roots: self.flipped.as_slice(),
@@ -461,7 +475,6 @@ impl<'p> Forest<'p> {
         let claims = self.claims.as_mut_slice();
         let roots = self.claim_roots.as_mut_slice();
         let kept = keep(claims, roots, &mut self.claimed, &self.leaf_of);
-        self.claimed.is_alike();
         self.claims.truncate(kept);
         self.claim_roots.truncate(kept);
         clear_leaves(
@@ -481,6 +494,9 @@ impl<'p> Forest<'p> {
         ensures renewed { IsRenewed self.old self.new }
         ensures claims { self.new.claims ≡ [] }
         ensures size { length self.new.base ≡ length self.old.base + length self.old.flipped }
+        ensures covered { Covers self.old.base self.new.base }
+        ensures rested { IsRested self.new }
+        ensures leads { LeadsOn self.old self.new }
     {
         let flipped = Flipped {
             roots: self.flipped.as_slice(),
@@ -489,7 +505,6 @@ impl<'p> Forest<'p> {
         };
         exchange(&mut self.base, &mut self.adopted, &flipped, &mut self.path);
         clear_claims(self.claims.as_slice(), &mut self.claimed);
-        self.claimed.is_alike();
         self.claims.clear();
         self.claim_roots.clear();
         clear_leaves(
@@ -509,6 +524,7 @@ impl<'p> Forest<'p> {
         ensures current { IsCurrent self.entry result.pairs }
         ensures matching { IsMatchingOf self.entry.matrix result }
         ensures size { length result.pairs ≡ length self.entry.base + length self.entry.flipped }
+        ensures covered { Covers self.entry.base result.pairs }
     {
         let Forest {
             mut base,

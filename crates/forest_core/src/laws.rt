@@ -1,16 +1,15 @@
 //! Laws on forests.
 
-ghost use Rattle.std.specs.Prelude.{◌≡◌, ◌↔◌, ◌+◌, ◌<◌, ◌≤◌, ◌++◌, ℕ, List, [], length};
+ghost use Rattle.std.specs.Prelude.{◌≡◌, ◌↔◌, ◌+◌, ◌++◌, ℕ, List, [], length};
 ghost use Rattle.bip_defs.specs.Lists.{Among, AreDistinct, AreNew, Lists};
 ghost use Rattle.bip_defs.specs.Matching.{Covers, IsMatching, IsMaximum, cols_of, rows_of};
-ghost use Rattle.bip_defs.specs.Matrix.{IsEntry, Matrix, Place, cols};
+ghost use Rattle.bip_defs.specs.Matrix.{IsEntry, Matrix, Place};
 ghost use Rattle.bip_defs.specs.Witness.{IsWitness};
-ghost use Rattle.forest_core.specs.Current.{IsCurrent, OnPath};
+ghost use Rattle.forest_core.specs.Current.{IsCurrent};
 ghost use Rattle.forest_core.specs.Events.{AreClaimsAndWins, Becomes, Grows, IsLegal, LeadsTo, Runs, flips};
-ghost use Rattle.forest_core.specs.Paths.{IsPath};
 ghost use Rattle.forest_core.specs.Sound.{IsSound};
 ghost use Rattle.forest_core.specs.Trees.{HasTrees};
-ghost use Rattle.bip_defs.specs.Forest.{InForest, IsRested, IsRootOfRow, IsSettled, RootOf, State, grown_by, new_forest};
+ghost use Rattle.bip_defs.specs.Forest.{InForest, IsRested, IsRootOfRow, IsSettled, State, grown_by, new_forest};
 ghost use Rattle.sp_ids.specs.Events.{claim_events, claims_then_wins, win_events};
 ghost use Rattle.sp_ids.specs.declared.events.Event.{Event};
 ghost use Rattle.sp_ids.specs.declared.events.Event.TheVariants.{Claim, Done, Graft, Rebuild, Win};
@@ -68,20 +67,10 @@ pub fn claims_and_wins_grow()
         → Runs s (claims_then_wins claims wins) t → Grows s t }
 {}
 
-/// A sound forest has trees: each column in it and each claimed row has one root.
+/// A sound forest has trees: each column in it and each claimed row has one root, and each root with
+/// a leaf has a path.
 pub fn sound_forests_have_trees()
     ensures { (s : State) → IsSound s → HasTrees s }
-{}
-
-/// A root with a leaf is in range, as its leaf is, and has a path. Each row of the path is of the
-/// root's tree.
-pub fn leaves_end_paths()
-    ensures in_range { (s : State) (x r : ℕ) → IsSound s → Among (x, r) s.leaves
-        → (x < cols s.matrix) × (r < s.matrix.rows) }
-    ensures path { (s : State) (x r : ℕ) → IsSound s → Among (x, r) s.leaves
-        → (path : List Place) × IsPath s x path }
-    ensures tree { (s : State) (x r : ℕ) → IsSound s → OnPath s.base s.claims s.leaves x r
-        → IsRootOfRow s.base s.claims x r }
 {}
 
 /// A sound forest has one current matching, up to the order of its pairs: it is a matching of
@@ -136,7 +125,4 @@ pub fn new_pairs_run()
         → ((x r : ℕ) → Among (x, r) wins → (¬ Among x (cols_of s.base))
         × (¬ Among r (rows_of s.base)) × IsRootOfRow s.base (s.claims ++ claims) x r)
         → Runs s (claims_then_wins claims wins) (grown_by s claims wins) }
-{
-    runs_join();
-    claims_and_wins_grow();
-}
+{}

@@ -18,7 +18,7 @@ mod table;
 pub use forest::Forest;
 pub use laws::{
     claims_and_wins_grow, current_is_a_matching, done_is_maximum, events_keep_covered,
-    events_keep_sound, events_keep_the_matrix, forests_are_rested, leaves_end_paths, new_pairs_run,
+    events_keep_sound, events_keep_the_matrix, forests_are_rested, new_pairs_run,
     pairs_stand_in_their_lists, runs_join, settled_without_wins, sound_forests_have_trees,
 };
 pub use runs::every_run;

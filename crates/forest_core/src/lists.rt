@@ -21,8 +21,7 @@ impl<'p> Forest<'p> {
         ensures long { IfOk result (λ list. length list.items ≡ self.now.matrix.rows) }
         ensures holders { IfOk result (λ list. IsTableOf self.now.claims list.items) }
     {
-        self.is_sound();
-        let rows = self.pattern().rows();
+        let rows = self.rows();
         let mut list = Vec::with_capacity(alloc, rows as usize)?;
         for row in 0..rows {
             list.push_reserved(self.holder(Row(row)));
@@ -37,8 +36,7 @@ impl<'p> Forest<'p> {
         ensures long { IfOk result (λ list. length list.items ≡ cols self.now.matrix) }
         ensures leaves { IfOk result (λ list. IsTableOf self.now.leaves list.items) }
     {
-        self.is_sound();
-        let cols = self.pattern().cols();
+        let cols = self.cols();
         let mut list = Vec::with_capacity(alloc, cols as usize)?;
         for col in 0..cols {
             list.push_reserved(self.leaf(Col(col)));
@@ -53,8 +51,7 @@ impl<'p> Forest<'p> {
         ensures long { IfOk result (λ list. length list.items ≡ self.now.matrix.rows) }
         ensures roots { IfOk result (λ list. AreRowTrees self.now list.items) }
     {
-        self.is_sound();
-        let rows = self.pattern().rows();
+        let rows = self.rows();
         let mut list = Vec::with_capacity(alloc, rows as usize)?;
         for row in 0..rows {
             list.push_reserved(self.root_of_row(Row(row)));
@@ -70,8 +67,7 @@ impl<'p> Forest<'p> {
         ensures long { IfOk result (λ list. length list.items ≡ cols self.now.matrix) }
         ensures roots { IfOk result (λ list. AreColTrees self.now list.items) }
     {
-        self.is_sound();
-        let cols = self.pattern().cols();
+        let cols = self.cols();
         let mut list = Vec::with_capacity(alloc, cols as usize)?;
         for col in 0..cols {
             list.push_reserved(self.root_of(Col(col)));

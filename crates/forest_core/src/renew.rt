@@ -5,7 +5,7 @@ ghost use Rattle.bip_defs.specs.Lists.{Among, IsMarked};
 ghost use Rattle.forest_core.specs.Kept.{AreClaimsIn, AreFirstRoots, kept};
 ghost use Rattle.bip_defs.specs.Forest.{roots_of};
 ghost use Rattle.forest_core.specs.Stored.{AreMarks};
-ghost use Rattle.forest_core.specs.Tables.{IsTableOf, beside};
+ghost use Rattle.forest_core.specs.Tables.{AreAlike, IsTableOf, beside};
 
 use crate::claim_table::ClaimTable;
 use crate::table::Table;
@@ -25,6 +25,7 @@ pub fn keep(
     ensures holders { IsTableOf (take result claims.new) claimed.new.holders }
     ensures same { (r c : ℕ) → Among (r, c) (take result claims.new)
         → beside claimed.new.roots r ≡ beside claimed.old.roots r }
+    ensures alike { AreAlike claimed.new }
     ensures long { length claimed.new.holders ≡ length claimed.old.holders }
 {
     let mut stay: usize = 0;
@@ -48,7 +49,9 @@ pub fn keep(
 pub fn clear_claims(claims: &[(Row, Col)], claimed: &mut ClaimTable)
     requires rows { (r c : ℕ) → Among (r, c) claims.now → r < length claimed.old.holders }
     requires holders { IsTableOf claims.now claimed.old.holders }
+    requires alike { AreAlike claimed.old }
     ensures holders { IsTableOf [] claimed.new.holders }
+    ensures alike { AreAlike claimed.new }
     ensures long { length claimed.new.holders ≡ length claimed.old.holders }
 {
     if claims.len() > claimed.len() / 16 {

@@ -1,5 +1,6 @@
 -- One worker's round over the roots with a leaf.
-use Rattle.std.proofs.Common.{◌≡◌, ◌⊎◌, ◌↔◌, ◌∙◌, ℕ, ◌+◌, ◌<◌, ◌≤◌, List, [], ◌∷◌, ◌++◌, take, drop, get_or, take-append-drop, append_assoc, None, Some, length, refl, sym, ap, subst, inl, inr, ⊎_elim}
+use Rattle.std.proofs.Common.{◌≡◌, ◌≢◌, ◌⊎◌, ◌↔◌, ◌∙◌, ℕ, ◌+◌, ◌-◌, ◌<◌, ◌≤◌, List, [], ◌∷◌, ◌++◌, take, drop, get_or, take-append-drop, append_assoc, None, Some, length, refl, sym, ap, subst, inl, inr, ⊎_elim, arith}
+use Rattle.std.proofs.Math.Decide.{dec_lt}
 use Rattle.bip_defs.specs.Forest.{State, roots_of}
 use Rattle.bip_defs.specs.Lists.{Among}
 use Rattle.bip_defs.specs.Matrix.{Place}
@@ -7,8 +8,9 @@ use Rattle.bip_defs.specs.WordValues.{held}
 use Rattle.bip_defs.proofs.Sets.{among_either, among_last, among_left, among_right, row_among, row_pair}
 use Rattle.std.proofs.lemmas.List.{append-nil, map-append, take_all, take_more}
 use Rattle.flip_words.specs.Board.{Board, col_vertex}
-use Rattle.flip_words.specs.Seat.{HasSet, HasSetTo, IsRightful, KnowsTaker, Seat, Took, after_take}
+use Rattle.flip_words.specs.Seat.{HasSet, HasSetTo, KnowsTaker, Seat, Took, after_take}
 use Rattle.tree_augment.specs.Augmented.{AreAsked, ExchangesItsPaths, HasAsked, HasMet, IsOnTakenPath, IsPathPair, none, saw, took}
+use Rattle.tree_augment.specs.ForestBoards.{IsBoardOf}
 use Rattle.tree_augment.specs.Rounds.{AsksFor, HasExchanged}
 
 -- A seat that takes a tree.
@@ -17,13 +19,33 @@ pub takes : (t : Seat) (x : ℕ) {u : Seat} → u ≡ after_take t x None → To
 takes t x e = subst (λ (v : Seat). Took v x) (sym e) (among_right (x, t.number) t.listed.taken ((x, t.number) ∷ []) (inl refl))
 
 -- it has set no vertex of a tree that it did not know to be taken
-pub not_set_yet : {b : Board} {t u : Seat} {x : ℕ} → IsRightful t → t.board ≡ b → ((number : ℕ) → KnowsTaker t x number → None ≡ Some number) → u ≡ after_take t x None → (v : ℕ) → held b.trees v ≡ Some x → ¬ HasSet u v
-not_set_yet {b = b} {t = t} {x = x} own of known e v tree (mate, h) =
-    let (y, his, mine) = own.sets v mate (subst (λ (z : Seat). HasSetTo z v mate) e h) in
-    let roots = sym his ∙ ap (λ (a : Board). held a.trees v) of ∙ tree in
-    let same : y ≡ x = cc in
-    let found = known t.number (inl (subst (λ i. Among (i, t.number) t.listed.taken) same mine)) in
-    cc
+pub not_set_yet : {s : State} {b : Board} {t u : Seat} {x : ℕ} → IsBoardOf s b → ExchangesItsPaths s b t → ((number : ℕ) → KnowsTaker t x number → None ≡ Some number) → u ≡ after_take t x None → (v : ℕ) → held b.trees v ≡ Some x → ¬ HasSet u v
+not_set_yet {s = s} {b = b} {t = t} {x = x} board was known e v tree (mate, h) = by (dec_lt v b.rows)
+  where
+    set : HasSetTo t v mate
+    set = subst (λ (z : Seat). HasSetTo z v mate) e h
+
+    -- it knows the taker of each tree that it took
+    new : (y : ℕ) → Took t y → ¬ (held b.trees v ≡ Some y)
+    new y his tree_of =
+        let roots = sym tree_of ∙ tree in
+        let same : y ≡ x = cc in
+        let found = known t.number (inl (subst (λ i. Among (i, t.number) t.listed.taken) same his)) in
+        cc
+
+    row : ¬ (v < b.rows)
+    row lt = let (y, his, (on, claim)) = (was.rows v mate lt).0 set in new y his ((board.row_trees v y lt).1 (board.trees.path_root y v on))
+
+    col : (c : ℕ) → v ≢ col_vertex b c
+    col c is =
+        let (y, his, (on, claim)) = (was.cols mate c).0 (subst (λ i. HasSetTo t i mate) is set) in
+        let lt = subst (λ n. c < n) (sym board.opened.cols) (board.trees.claim_in_range mate c claim).1 in
+        let root = board.trees.claimer_root y mate c (board.trees.path_root y mate on) claim in
+        new y his (subst (λ i. held b.trees i ≡ Some y) (sym is) ((board.col_trees c y lt).1 root))
+
+    by : ¬ Dec (v < b.rows)
+    by (yes lt) = row lt
+    by (no nlt) = col (v - b.rows) (omega arith)
 
 module _ {s : State} {b : Board} {x : ℕ} (t : Seat) {m u : Seat} (e : m ≡ after_take t x None) (h : HasExchanged s b x m u) where
   same_number : u.number ≡ t.number

@@ -4,8 +4,11 @@ use Rattle.bip_defs.specs.Forest.{State, roots_of}
 use Rattle.bip_defs.specs.Lists.{Among}
 use Rattle.bip_defs.specs.Matrix.{Place}
 use Rattle.flip_words.specs.Board.{Board, col_vertex}
+use Rattle.bip_graph.specs.Mates.{Mated}
+use Rattle.flip_words.specs.ClosedBoards.{SettlesAll}
 use Rattle.flip_words.specs.Seat.{HasSeen, HasSetTo, HoldsAllSeats, Seat, Took}
 use Rattle.forest_core.specs.Current.{OnPath}
+use Rattle.forest_core.specs.Exchanged.{AreExchanged}
 use Rattle.level_sharing.specs.Each.{EachFrom}
 
 -- a row on the path of a root, with the column that claimed it, which is its mate once the path is
@@ -17,9 +20,13 @@ IsPathPair s x p = OnPath s.base s.claims s.leaves x p.0 × Among p s.claims
 abbrev pub IsOnTakenPath : State → Seat → Place → Type 0
 IsOnTakenPath s t p = (x : ℕ) × Took t x × IsPathPair s x p
 
+-- the seat has taken no tree, and so has set no vertex
+abbrev pub HasTakenNone : Seat → Type 0
+HasTakenNone t = (t.listed.taken ≡ []) × (t.listed.sets ≡ [])
+
 -- no seat has taken a tree
 abbrev pub HaveTakenNone : List Seat → Type 0
-HaveTakenNone ts = (t : Seat) → Among t ts → t.listed.taken ≡ []
+HaveTakenNone ts = (t : Seat) → Among t ts → HasTakenNone t
 
 -- the seat took the tree of the root, or has seen which seat did
 abbrev pub HasMet : Seat → ℕ → Type 0
@@ -53,11 +60,13 @@ pub record HasAsked (xs : List ℕ) (t : Seat) : Type 0 where
   pub saw : t.listed.seen ≡ before ++ seen
   pub asked : AreAsked t.number xs t.listed.taken seen
 
--- These are all seats of the board, in any order. Each went once round the roots with a leaf, from the start of
--- its share of them on, and asked for the tree of each. It has met each of these roots, and has
--- exchanged the paths of the trees that it took
+-- These are all seats of the board, in any order. Each went once round the roots with a leaf, from
+-- the start of its share of them on, and asked for the tree of each. It has met each of these roots,
+-- and has exchanged the paths of the trees that it took. The board closes with the mates in which
+-- the path of every leaf is exchanged
 pub record HaveAugmented (s : State) (b : Board) (ts : List Seat) : Type 0 where
   pub all : HoldsAllSeats b ts
   pub rounds : EachFrom (λ (i : ℕ). HasAsked (roots_of (once_round s.leaves (length ts) i))) 0 ts
   pub met : (t : Seat) (x : ℕ) → Among t ts → Among x (roots_of s.leaves) → HasMet t x
   pub paths : (t : Seat) → Among t ts → ExchangesItsPaths s b t
+  pub exchanged : (m : Mated) → SettlesAll b m ts → AreExchanged s m

@@ -4,10 +4,12 @@ use Rattle.bip_defs.specs.Forest.{IsRootOfRow, RootOf, State}
 use Rattle.bip_defs.specs.WordValues.{held}
 use Rattle.flip_words.specs.Board.{Board, IsOpenedFrom, col_vertex}
 use Rattle.forest_core.specs.Current.{base_of}
+use Rattle.forest_core.specs.Trees.{HasTrees}
 
--- The board was opened with the mates of the forest's base matching and with its trees: the tree of
--- each row and of each column is that of its root in the forest
+-- The board was opened with the mates of the forest's base matching and with its trees, which are
+-- those of a sound forest: the tree of each row and of each column is that of its root in the forest
 pub record IsBoardOf (s : State) (b : Board) : Type 0 where
+  pub trees : HasTrees s
   pub opened : IsOpenedFrom (base_of s) b.trees b
   pub row_trees : (r x : ℕ) → r < b.rows → (held b.trees r ≡ Some x)
       ↔ IsRootOfRow s.base s.claims x r

@@ -1,9 +1,10 @@
 -- One worker's round over the roots with a leaf, and its visit of each.
-use Rattle.std.specs.Prelude.{◌≡◌, ◌⊎◌, ◌↔◌, ℕ, ◌<◌, List, [], ◌++◌}
+use Rattle.std.specs.Prelude.{◌≡◌, ◌⊎◌, ◌↔◌, ℕ, ◌<◌, List, ◌++◌, length}
 use Rattle.bip_defs.specs.Forest.{State, roots_of}
 use Rattle.flip_words.specs.Board.{Board, col_vertex}
 use Rattle.flip_words.specs.Seat.{HasSetTo, IsSameSeat, Seat}
-use Rattle.tree_augment.specs.Augmented.{AreAsked, ExchangesItsPaths, IsPathPair, once_round}
+use Rattle.level_sharing.specs.Each.{EachPairFrom}
+use Rattle.tree_augment.specs.Augmented.{AreAsked, ExchangesItsPaths, HasTakenNone, IsPathPair, once_round}
 use Rattle.tree_augment.specs.ForestBoards.{IsBoardOf}
 
 -- the same seat, after it asked for these trees in their order
@@ -29,9 +30,13 @@ pub record CanGoRound (s : State) (b : Board) (workers number : ℕ) (t : Seat) 
   pub board : IsBoardOf s b
   pub few : number < workers
   pub seat : t.board ≡ b
-  pub none_taken : t.listed.taken ≡ []
+  pub none_taken : HasTakenNone t
 
 -- the same seat, after its round as the worker of this number
 pub record HasGoneRound (s : State) (b : Board) (workers number : ℕ) (t u : Seat) : Type 0 where
   pub asked : AsksFor (roots_of (once_round s.leaves workers number)) t u
   pub paths : ExchangesItsPaths s b u
+
+-- these seats after their rounds, each as the worker of the number of its place
+abbrev pub HaveGoneRound : State → Board → List Seat → List Seat → Type 0
+HaveGoneRound s b ts us = EachPairFrom (λ k t u. HasGoneRound s b (length ts) k t u) 0 ts us

@@ -9,7 +9,7 @@ ghost use Rattle.tree_augment.specs.Augmented.{HaveTakenNone};
 ghost use Rattle.tree_augment.specs.ForestBoards.{IsBoardOf};
 
 use flip_words::{FlipBoard, FlipSeat, new_seats_are_all};
-use forest_core::{Forest, sound_forests_have_trees};
+use forest_core::Forest;
 use level_sharing::are_worth_threads;
 use sp_ids::{Col, OutOfMemory};
 use std::alloc::Global;
@@ -37,8 +37,6 @@ pub fn open<R: Threads + Sync>(
     ensures count { IfOk result (λ b. length b.1.items ≡ seats) }
     ensures none_taken { IfOk result (λ b. HaveTakenNone b.1.items) }
 {
-    forest.is_sound();
-    sound_forests_have_trees();
     new_seats_are_all();
     let (by_row, by_col) = trees(rt, alloc, forest, seats, worth_threads);
     let row_trees = by_row?;

@@ -9,7 +9,7 @@ ghost use Rattle.tree_augment.specs.Rounds.{AsksFor};
 
 use crate::walk::exchange;
 use flip_words::{FlipBoard, FlipSeat, Taken};
-use forest_core::{Forest, leaves_end_paths};
+use forest_core::Forest;
 use sp_ids::{Col, Row};
 
 // Takes the tree of a root with a leaf, and exchanges its path, unless a seat has taken it before.
@@ -21,9 +21,6 @@ fn visit(forest: &Forest, board: &FlipBoard, seat: &mut FlipSeat, root: Col, lea
     ensures paths { ExchangesItsPaths forest.now board.now seat.new }
     ensures asked { AsksFor (root ∷ []) seat.old seat.new }
 {
-    forest.is_sound();
-    leaves_end_paths();
-    seat.is_rightful();
     match board.take(seat, root) {
         Taken::Mine => exchange(forest, board, seat, root, leaf),
         Taken::Held(_) => {}

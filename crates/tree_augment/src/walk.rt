@@ -8,7 +8,7 @@ ghost use Rattle.tree_augment.specs.ForestBoards.{IsBoardOf};
 ghost use Rattle.tree_augment.specs.Rounds.{HasExchanged};
 
 use flip_words::{FlipBoard, FlipSeat};
-use forest_core::{Forest, leaves_end_paths, sound_forests_have_trees};
+use forest_core::Forest;
 use sp_ids::{Col, Row};
 
 /// Exchanges the path of a root on the board, from its leaf up, for a seat that took the root's
@@ -21,9 +21,6 @@ pub fn exchange(forest: &Forest, board: &FlipBoard, seat: &mut FlipSeat, root: C
     requires unset { (v : ℕ) → held board.now.trees v ≡ Some root → ¬ HasSet seat.old v }
     ensures { HasExchanged forest.now board.now root seat.old seat.new }
 {
-    forest.is_sound();
-    sound_forests_have_trees();
-    leaves_end_paths();
     let mut row = leaf;
     loop {
         let Some(col) = forest.holder(row) else {

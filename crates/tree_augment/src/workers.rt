@@ -5,8 +5,9 @@ ghost use Rattle.flip_words.specs.Seat.{HoldsAllSeats};
 ghost use Rattle.tree_augment.specs.Augmented.{HaveAugmented, HaveTakenNone};
 ghost use Rattle.tree_augment.specs.ForestBoards.{IsBoardOf};
 
+use crate::laws::rounds_augment;
 use crate::rounds::go_round;
-use flip_words::{FlipBoard, FlipSeat, seats_are_few, seats_stay_all};
+use flip_words::{FlipBoard, FlipSeat, seats_are_few};
 use forest_core::Forest;
 use level_sharing::{Sharing, Work, share_start, share_work};
 use sp_ports::Gate;
@@ -33,7 +34,6 @@ impl<'a, 'p> Work<FlipSeat, Infallible> for Rounds<'a, 'p> {
         HasGoneRound w.forest.now w.board.now w.workers number t u };
 
     fn run(&self, number: u32, seat: &mut FlipSeat) -> Result<(), Infallible> {
-        seat.is_rightful();
         let from = share_start(self.forest.leaves().len(), self.workers, number as usize);
         go_round(self.forest, self.board, seat, from);
         Ok(())
@@ -47,9 +47,9 @@ impl<'a, 'p> Work<FlipSeat, Infallible> for Rounds<'a, 'p> {
 /// Of w workers, the worker i goes once round the roots with a leaf in their order, from the place
 /// `i * l / w` of a list of l of them on, and exchanges the path of each whose tree no seat took
 /// before. It calls `gate.arrive(i)` once, before its round. Workers run at once where there are
-/// many roots with a leaf (`share_work`), as far as threads can be had. Takes no memory and waits
-/// for nothing but the gate. Work: each worker looks once at each root with a leaf; two looks and
-/// two sets for each row of a path.
+/// many roots with a leaf (`share_work`) and threads start. Takes no memory and waits for nothing
+/// but the gate. Work: each worker looks once at each root with a leaf; two looks and two sets for
+/// each row of a path.
 pub fn augment<R: Threads + Sync, G: Gate>(
     rt: &R,
     forest: &Forest,
@@ -66,7 +66,7 @@ pub fn augment<R: Threads + Sync, G: Gate>(
     augment_under(rt, forest, board, seats, &Sharing::usual(gate));
 }
 
-/// [`augment`], where it is told how many roots with a leaf are worth threads.
+/// [`augment`] with a sharing, which says how many roots with a leaf are worth threads.
 pub fn augment_under<R: Threads + Sync, G: Gate>(
     rt: &R,
     forest: &Forest,
@@ -80,7 +80,7 @@ pub fn augment_under<R: Threads + Sync, G: Gate>(
     requires none_taken { HaveTakenNone seats.old }
     ensures { HaveAugmented forest.entry.now board.entry.now seats.new }
 {
-    seats_stay_all();
+    rounds_augment();
     seats_are_few(seats);
     let rounds = Rounds {
         forest,

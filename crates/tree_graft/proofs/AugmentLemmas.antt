@@ -1,13 +1,8 @@
 -- The exchange of the paths of all roots with a leaf.
 use Rattle.std.proofs.Common.{◌≡◌, ℕ, ◌+◌, List, length, sym, ap, subst, arith}
-use Rattle.forest_core.specs.Events.{AreKept, LeadsTo, Runs, drops, keeps, none}
-use Rattle.forest_core.specs.Exchanged.{flip_events, unflipped}
+use Rattle.forest_core.specs.Events.{AreKept, drops, keeps, none}
 use Rattle.bip_defs.specs.Forest.{IsSettled, State}
 use Rattle.bip_defs.specs.Matrix.{Place}
-
--- flips of roots lead to a forest
-pub lead_by_flips : (s t : State) → Runs s (flip_events (unflipped s)) t → LeadsTo s t
-lead_by_flips s t runs = (flip_events (unflipped s), runs)
 
 -- a forest is settled whatever roots are flipped
 pub flips_settled : (s t : State) (xs : List ℕ) → t ≡ record s { flipped = xs } → IsSettled s → IsSettled t

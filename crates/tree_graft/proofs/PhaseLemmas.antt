@@ -3,28 +3,50 @@ use Rattle.std.proofs.Common.{◌≡◌, ◌≢◌, ◌↔◌, ◌∙◌, ℕ, �
 use Rattle.std.proofs.Math.Decide.{dec_lt}
 use Rattle.std.proofs.lemmas.Bool.{lt-ltb, ltb-true}
 use Rattle.bip_defs.specs.Forest.{IsRested, State}
-use Rattle.bip_defs.specs.Matching.{IsMatching, IsMaximum}
+use Rattle.bip_defs.specs.Matching.{Covers, IsMatching, IsMaximum}
 use Rattle.bip_defs.specs.Matrix.{Matrix, Place, cols}
 use Rattle.bip_defs.proofs.Full.{matching_few}
 use Rattle.bip_defs.proofs.Reaching.{same_size_maximum}
-use Rattle.sp_ids.specs.declared.events.Event.{Event}
-use Rattle.forest_core.specs.Events.{Grows, LeadsTo, Runs}
+use Rattle.bip_defs.proofs.Covers.{covers_more, covers_none}
+use Rattle.forest_core.specs.Events.{Grows}
 use Rattle.forest_core.specs.Growing.{GrowsOn}
-use Rattle.forest_core.specs.Sound.{IsSound}
+use Rattle.forest_core.specs.Trees.{HasTrees}
+use Rattle.tree_graft.specs.Phases.{StaysMatched}
 
 -- what goes on growing has grown
-pub grown_from : (s t : State) → ((u : State) → Grows u u) → GrowsOn s t → Grows s t
-grown_from s t here on = on s (here s)
+pub grown_from : (s t : State) → GrowsOn s t → Grows s t
+grown_from s t on = on s (record {
+  legal = ([], refl);
+  matrix = refl;
+  base = refl;
+  flipped = refl;
+  claims = λ p h. h;
+  leaves = λ p h. h;
+  inside = λ c i. i;
+  root = λ x c w. w;
+  row_won = λ r w. w;
+  won = λ c w. w;
+  used_up = λ c all. all;
+})
 
--- the laws that runs keep a forest sound, and its matrix
-abbrev pub StaySound : Type 0
-StaySound = (s t : State) (es : List Event) → IsSound s → Runs s es t → IsSound t
+-- What stays matched.
 
-abbrev pub KeepMatrix : Type 0
-KeepMatrix = (s t : State) → LeadsTo s t → t.matrix ≡ s.matrix
+pub matched_here : {s : State} → HasTrees s → StaysMatched s s
+matched_here trees = record { matrix = refl; matching = trees.sound.base; covered = covers_none _ }
 
-pub lead_matching : StaySound → KeepMatrix → (s t : State) → IsSound s → LeadsTo s t → IsMatching s.matrix t.base
-lead_matching sound same s t k l = subst (λ (a : Matrix). IsMatching a t.base) (same s t l) (sound s t l.0 k l.1).base
+pub grown_matched : {s t : State} → HasTrees s → Grows s t → StaysMatched s t
+grown_matched {s = s} trees g = record {
+  matrix = g.matrix;
+  matching = subst (IsMatching s.matrix) (sym g.base) trees.sound.base;
+  covered = subst (Covers s.base) (sym g.base) (covers_none s.base);
+}
+
+pub matched_on : {s t u : State} → StaysMatched s t → StaysMatched t u → StaysMatched s u
+matched_on {u = u} a b = record {
+  matrix = b.matrix ∙ a.matrix;
+  matching = subst (λ (m : Matrix). IsMatching m u.base) a.matrix b.matching;
+  covered = covers_more a.covered b.covered;
+}
 
 -- Without a leaf.
 
@@ -77,7 +99,7 @@ known_none k e = by (dec_lt 0 k)
     by (yes lt) = absurd (true≢false (sym (lt-ltb 0 k lt) ∙ e))
     by (no nlt) = omega arith
 
--- what both clauses on an answer tell together
+-- what two clauses on an answer say together
 pub if_ok_both : {X Y : Type 0} (r : Result X Y) (P Q S : X → Type 0) → ((x : X) → P x → Q x → S x) → IfOk r P → IfOk r Q → IfOk r S
 if_ok_both (Ok x) P Q S f p q = f x p q
 if_ok_both (Err e) P Q S f p q = tt

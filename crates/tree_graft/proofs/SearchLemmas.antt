@@ -4,7 +4,9 @@ use Rattle.std.proofs.lemmas.Bool.{eqb-true}
 use Rattle.std.proofs.lemmas.List.{get_or-map, length-map, map-append, take-map}
 use Rattle.bip_defs.specs.Lists.{Among, AreDistinct}
 use Rattle.bip_defs.specs.Matching.{cols_of, rows_of}
-use Rattle.bip_defs.specs.Matrix.{IsEntry, Place}
+use Rattle.bip_defs.specs.Matrix.{IsEntry, Matrix, Place}
+use Rattle.bip_defs.proofs.Closed.{closed_maximum}
+use Rattle.bip_graph.specs.Matching.{IsMatchingOf, IsMaximumOf, Pairing}
 use Rattle.bip_defs.proofs.Sets.{among_at, apart_from_front, among_last, among_left, among_right, row_among}
 use Rattle.sp_ids.specs.declared.events.Event.TheVariants.{Done}
 use Rattle.forest_core.specs.Events.{IsLegal}
@@ -22,6 +24,13 @@ nothing_to_claim s rested none covered = (rested.no_leaves, λ c i r e. absurd (
     out : (c : ℕ) → InForest s c → ¬ Among c (cols_of s.base)
     out c (lt, inl free) = free
     out c (lt, inr (q, m, h)) = absurd (subst (λ (ps : List Place). Among q (rows_of ps)) none h)
+
+-- a matching that has each column with an entry is maximum
+pub entries_matched_maximum : (a : Matrix) (m : Pairing) → IsMatchingOf a m → ((r c : ℕ) → IsEntry a r c → Among c (cols_of m.pairs)) → IsMaximumOf a m
+entries_matched_maximum a m of covered = record {
+  matching = of;
+  maximum = closed_maximum a m.pairs [] of.matching (λ r marked. absurd (true≢false (sym marked))) (λ c lt free r e. absurd (free (covered r c e)));
+}
 
 -- Rows of claims.
 

@@ -60,7 +60,8 @@ pub record IsAtLevel (l : PhaseSearch) (s : State) : Type 0 where
   pub ready : IsReady l.board l.workers.items s
   pub frontier : IsFrontier s l.frontier.items
 
--- from the forest s on, of the same matrix, a level claimed a row at least for each column of the frontier that it left
+-- from the forest s on, of the same matrix, a level claimed a row at least for each column of the
+-- frontier that it left
 pub record IsAtNextLevel (s : State) (l : PhaseSearch) (t : State) : Type 0 where
   pub level : IsAtLevel l t
   pub matrix : t.matrix ≡ s.matrix

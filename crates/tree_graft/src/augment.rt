@@ -2,20 +2,23 @@
 
 ghost use Rattle.std.specs.Prelude.{◌≡◌, ◌+◌, ◌≤◌, [], length, IfOk, IsTrue, OnOk};
 ghost use Rattle.bip_defs.specs.Forest.{IsRested, IsSettled};
-ghost use Rattle.forest_core.specs.Events.{AreFlipped, LeadsTo};
+ghost use Rattle.bip_defs.specs.Matching.{Covers};
+ghost use Rattle.forest_core.specs.Events.{AreFlipped};
 ghost use Rattle.forest_core.specs.Exchanged.{AreExchanged};
+ghost use Rattle.forest_core.specs.Growing.{LeadsOn};
 ghost use Rattle.sp_ids.specs.Limits.{max_workers};
 ghost use Rattle.tree_graft.specs.Counts.{AreKeptIf, FreesFew};
+ghost use Rattle.tree_graft.specs.Phases.{StaysMatched};
 
 use crate::switches::trees_stay;
 use bip_graph::Mates;
-use forest_core::{Forest, forests_are_rested, runs_join};
+use forest_core::Forest;
 use level_sharing::Sharing;
 use sp_ids::OutOfMemory;
 use sp_ports::Gate;
 use std::alloc::Global;
 use std::thread::Threads;
-use tree_augment::{augment_under, closed_mates_are_exchanged, open};
+use tree_augment::{augment_under, open};
 
 /// Exchanges the path of each root with a leaf, by workers at once, and then keeps the trees
 /// without a leaf, where fewer than five rows are freed for each column in them, or frees all rows.
@@ -31,13 +34,13 @@ pub fn augment<R: Threads + Sync, G: Gate>(
     requires workers { (1 ≤ workers) × (workers ≤ max_workers) }
     requires flipped { forest.old.flipped ≡ [] }
     requires settled { IsSettled forest.old }
-    ensures legal { LeadsTo forest.old forest.new }
+    ensures leads { LeadsOn forest.old forest.new }
+    ensures matched { StaysMatched forest.old forest.new }
     ensures rested { OnOk result (IsRested forest.new) }
     ensures paths { IfOk result (λ k. k ≡ length forest.old.leaves) }
     ensures growth { IfOk result (λ k. length forest.new.base ≡ length forest.old.base + k) }
     ensures claims { OnOk result (AreKeptIf (FreesFew forest.old) forest.old forest.new) }
 {
-    runs_join();
     let before = forest.base().size();
     let keeps = trees_stay(forest);
     let mates = exchanged_mates(rt, alloc, forest, workers, sharing)?;
@@ -58,8 +61,6 @@ fn exchanged_mates<R: Threads + Sync, G: Gate>(
     requires flipped { forest.now.flipped ≡ [] }
     ensures { IfOk result (λ mates. AreExchanged forest.now mates) }
 {
-    forest.is_sound();
-    closed_mates_are_exchanged();
     let (board, mut seats) = open(rt, alloc, forest, workers, sharing.worth_threads)?;
     augment_under(rt, forest, &board, seats.as_mut_slice(), sharing);
     match board.close(alloc, seats) {
@@ -72,14 +73,13 @@ fn exchanged_mates<R: Threads + Sync, G: Gate>(
 fn renew(forest: &mut Forest, keeps: bool)
     requires flipped { AreFlipped forest.old }
     requires settled { IsSettled forest.old }
-    ensures legal { LeadsTo forest.old forest.new }
+    ensures leads { LeadsOn forest.old forest.new }
+    ensures matrix { forest.new.matrix ≡ forest.old.matrix }
+    ensures covered { Covers forest.old.base forest.new.base }
     ensures rested { IsRested forest.new }
     ensures growth { length forest.new.base ≡ length forest.old.base + length forest.old.flipped }
     ensures claims { AreKeptIf (IsTrue keeps) forest.old forest.new }
 {
-    forest.is_sound();
-    runs_join();
-    forests_are_rested();
     if keeps {
         forest.graft();
     } else {

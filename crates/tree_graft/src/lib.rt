@@ -21,10 +21,11 @@ ghost use Rattle.forest_core.specs.Events.{IsLegal, LeadsTo};
 ghost use Rattle.bip_defs.specs.Forest.{IsRested};
 ghost use Rattle.sp_ids.specs.Limits.{max_workers};
 ghost use Rattle.sp_ids.specs.declared.events.Event.TheVariants.{Done};
+ghost use Rattle.tree_graft.specs.Phases.{StaysMatched};
 
 use crate::augment::augment;
 use crate::levels::{can_grow, grow};
-use forest_core::{Forest, claims_and_wins_grow, done_is_maximum, events_keep_sound, runs_join};
+use forest_core::Forest;
 use level_sharing::Sharing;
 pub use maximum::{complete, complete_under, complete_with_marks};
 pub use sizes::{Plan, SearchSizes, USUAL_SIZES};
@@ -36,7 +37,7 @@ pub use switches::{goes_top_down, keeps_trees};
 
 /// One phase: the trees grow until each has a leaf or has nothing left to claim, and then the paths
 /// of all roots with a leaf are exchanged. Gives the number of these paths: 0 exactly where the
-/// base matching was maximum.
+/// base matching was maximum. Each row and column that was matched stays matched.
 ///
 /// The forest must be rested, and there may be 1 to 64 workers. They share each level and the
 /// exchange of the paths, and each calls `gate.arrive` once in each of these, whether its share is
@@ -65,6 +66,7 @@ pub fn phase<R: Threads + Sync, G: Gate>(
     requires few { workers ≤ max_workers }
     requires rested { IsRested forest.old }
     ensures legal { LeadsTo forest.old forest.new }
+    ensures matched { StaysMatched forest.old forest.new }
     ensures rested { IfOk result (λ _. IsRested forest.new) }
     ensures growth { IfOk result (λ k. length forest.new.base ≡ length forest.old.base + k) }
     ensures maximum { IfOk result (λ k. (k ≡ 0) ↔ IsMaximum forest.old.matrix forest.old.base) }
@@ -73,7 +75,7 @@ pub fn phase<R: Threads + Sync, G: Gate>(
     phase_under(rt, alloc, forest, workers, &Sharing::usual(gate))
 }
 
-/// [`phase`], where it is told how many items are worth threads.
+/// [`phase`] with a sharing, which says how many items are worth threads.
 pub fn phase_under<R: Threads + Sync, G: Gate>(
     rt: &R,
     alloc: Global,
@@ -85,15 +87,12 @@ pub fn phase_under<R: Threads + Sync, G: Gate>(
     requires few { workers ≤ max_workers }
     requires rested { IsRested forest.old }
     ensures legal { LeadsTo forest.old forest.new }
+    ensures matched { StaysMatched forest.old forest.new }
     ensures rested { IfOk result (λ _. IsRested forest.new) }
     ensures growth { IfOk result (λ k. length forest.new.base ≡ length forest.old.base + k) }
     ensures maximum { IfOk result (λ k. (k ≡ 0) ↔ IsMaximum forest.old.matrix forest.old.base) }
     ensures done { IfOk result (λ k. k ≡ 0 → IsLegal forest.new Done) }
 {
-    claims_and_wins_grow();
-    events_keep_sound();
-    runs_join();
-    done_is_maximum();
     if forest.claims().is_empty() && !can_grow(forest.pattern(), forest.base()) {
         return Ok(0);
     }

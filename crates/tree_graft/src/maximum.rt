@@ -1,10 +1,8 @@
 //! Maximum matchings: serial phases first, then phases by workers.
 
-ghost use Rattle.std.specs.Prelude.{◌≤◌, ℕ, IfOk, IfSome};
-ghost use Rattle.bip_defs.specs.Lists.{Among};
-ghost use Rattle.bip_defs.specs.Matching.{Covers, cols_of};
-ghost use Rattle.bip_defs.specs.Matrix.{IsEntry, Matrix};
-ghost use Rattle.bip_graph.specs.Matching.{IsMatchingOf, IsMaximumOf, Pairing};
+ghost use Rattle.std.specs.Prelude.{◌≤◌, IfOk, IfSome};
+ghost use Rattle.bip_defs.specs.Matching.{Covers};
+ghost use Rattle.bip_graph.specs.Matching.{IsMatchingOf, IsMaximumOf};
 ghost use Rattle.bip_graph.specs.OuterMarks.{AreOuterMarks};
 ghost use Rattle.sp_ids.specs.Limits.{max_workers};
 
@@ -13,9 +11,7 @@ use crate::phase_under;
 use crate::sizes::Plan;
 use crate::switches::is_large;
 use bip_graph::{Matching, OuterMarks};
-use forest_core::{
-    Forest, done_is_maximum, events_keep_covered, events_keep_sound, forests_are_rested, runs_join,
-};
+use forest_core::Forest;
 use level_sharing::Sharing;
 use pothen_fan::lengthen;
 use sp_ids::OutOfMemory;
@@ -99,7 +95,6 @@ pub fn complete_under<R: Threads + Sync, G: Gate>(
     ensures covered { IfOk result (λ p. Covers matching.pairs p.0.pairs) }
     ensures marks { IfOk result (λ p. IfSome p.1 (AreOuterMarks pattern.now)) }
 {
-    full_matchings_are_maximum();
     if !can_grow(pattern, &matching) {
         return Ok((matching, None));
     }
@@ -148,12 +143,6 @@ fn complete_by_phases<R: Threads + Sync, G: Gate>(
     ensures maximum { IfOk result (λ m. IsMaximumOf pattern.now m) }
     ensures covered { IfOk result (λ m. Covers matching.pairs m.pairs) }
 {
-    events_keep_sound();
-    events_keep_covered();
-    runs_join();
-    done_is_maximum();
-    forests_are_rested();
-    full_matchings_are_maximum();
     if !can_grow(pattern, &matching) {
         return Ok(matching);
     }
@@ -167,14 +156,4 @@ fn complete_by_phases<R: Threads + Sync, G: Gate>(
         grows = phase_under(rt, alloc, &mut forest, plan.workers, &sharing)? > 0;
     }
     Ok(forest.into_matching())
-}
-
-// Where each column that has an entry is matched, the matching is maximum.
-fn full_matchings_are_maximum()
-    ensures { (a : Matrix) (m : Pairing) → IsMatchingOf a m
-        → ((r c : ℕ) → IsEntry a r c → Among c (cols_of m.pairs)) → IsMaximumOf a m }
-{
-    events_keep_sound();
-    done_is_maximum();
-    forests_are_rested();
 }

@@ -4,7 +4,7 @@ use Rattle.forest_core.proofs.TableLemmas.{IsWithin, within_none}
 use Rattle.forest_core.proofs.renew.clear_claims.Goals as goal
 
 pub loop-row-init : goal.loop-row-init
-loop-row-init c = record { within = record { held = λ k v h. (c.requires.holders k v).0 h }; long = refl }
+loop-row-init c = record { within = record { held = λ k v h. (c.requires.holders k v).0 h }; long = refl; alike = c.requires.alike }
 
 pub clear-requires : goal.clear-requires
 clear-requires c =

@@ -11,6 +11,7 @@ loop-i-init c = record {
   keeping = keeping_start c.args.leaf_of.now c.args.claims.now c.args.roots.now c.args.claimed.now c.requires.holders c.requires.roots;
   in_range = λ i lt. c.requires.in_range _ (among_at c.args.roots.now i 0 lt);
   long = refl;
+  alike = c.requires.alike;
 }
 
 -- the place is within both lists
@@ -47,11 +48,13 @@ loop-i-preserved c = elim c.if-is_some.branch [
     keeping = keeping_won _ _ _ _ _ _ _ _ _ c.index-claims-i.result c.loop-i.invariant.keeping (at c) (leaf_known c.args.claimed.now.roots c.args.leaf_of.now c.index-claims-i.result c.index-roots-i.result c.get.result c.is_some.result _ (root c) (rw c.number.ensures at c.get.ensures) c.is_some.ensures w.if-is_some.true) c.requires.differ (let lt = c.requires.rows _ _ (at_among _ _ _ _ (at c)) in let long = c.loop-i.invariant.long in omega (arith, lt, long)) w.clear.ensures.holders w.clear.ensures.roots;
     in_range = c.loop-i.invariant.in_range;
     long = (let same = ap length w.clear.ensures.holders ∙ length-set _ _ _ in same ∙ c.loop-i.invariant.long);
+    alike = w.clear.ensures.alike;
   })
   | else-is_some w ↦ rw (w.claims-is, w.roots-is, w.claimed-is, w.stay-is) (record {
     keeping = keeping_stays _ _ _ _ _ _ _ _ c.index-claims-i.result c.index-roots-i.result c.loop-i.invariant.keeping (at c) (root c) (leaf_known c.args.claimed.now.roots c.args.leaf_of.now c.index-claims-i.result c.index-roots-i.result c.get.result c.is_some.result _ (root c) (rw c.number.ensures at c.get.ensures) c.is_some.ensures w.if-is_some.false) (within c);
     in_range = below_set _ c.loop-i.roots _ c.index-roots-i.result c.loop-i.invariant.in_range (in_range c);
     long = c.loop-i.invariant.long;
+    alike = c.loop-i.invariant.alike;
   })
 ]
 

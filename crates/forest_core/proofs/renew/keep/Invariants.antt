@@ -1,4 +1,5 @@
 use Rattle.std.proofs.Common.{◌≡◌, length}
+use Rattle.forest_core.specs.Tables.{AreAlike}
 use Rattle.forest_core.proofs.KeptClaims.{AreBelow, IsKeeping}
 use Rattle.forest_core.proofs.renew.keep.Given as goal
 
@@ -7,4 +8,5 @@ invariant-loop-i l = record {
   keeping : IsKeeping l.fn.claimed.roots l.leaf_of l.fn.claims l.claims l.roots l.claimed l.i l.stay;
   in_range : AreBelow (length l.leaf_of) l.roots;
   long : length l.claimed.holders ≡ length l.fn.claimed.holders;
+  alike : AreAlike l.claimed;
 }

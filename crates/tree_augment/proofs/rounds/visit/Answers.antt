@@ -4,13 +4,13 @@ use Rattle.tree_augment.proofs.RoundLemmas.{not_set_yet, saw_asked, saw_paths, t
 use Rattle.tree_augment.proofs.rounds.visit.Goals as goal
 
 pub take-requires-clause-root : goal.take-requires-clause-root
-take-requires-clause-root c = subst (λ n. c.args.root < n) (sym c.requires.board.opened.cols) (c.leaves_end_paths.ensures.in_range c.args.forest.now c.args.root c.args.leaf c.is_sound.ensures c.requires.leaf).0
+take-requires-clause-root c = subst (λ n. c.args.root < n) (sym c.requires.board.opened.cols) (c.requires.board.trees.leaf_in_range c.args.root c.args.leaf c.requires.leaf).0
 
 pub exchange-requires-clause-took : goal.exchange-requires-clause-took
 exchange-requires-clause-took c = takes c.args.seat.now c.args.root c.in-Mine.ensures.seat
 
 pub exchange-requires-clause-unset : goal.exchange-requires-clause-unset
-exchange-requires-clause-unset c = not_set_yet c.is_rightful.ensures c.requires.seat c.in-Mine.ensures.known c.in-Mine.ensures.seat
+exchange-requires-clause-unset c = not_set_yet c.requires.board c.requires.paths c.in-Mine.ensures.known c.in-Mine.ensures.seat
 
 pub returns-in-Mine-clause-paths : goal.returns-in-Mine-clause-paths
 returns-in-Mine-clause-paths c = took_paths c.args.seat.now c.in-Mine.ensures.seat c.exchange.ensures (row_among c.args.root c.args.leaf c.args.forest.now.leaves c.requires.leaf) c.requires.paths

@@ -3,21 +3,20 @@ use Rattle.tree_augment.proofs.walk.exchange.Goals as goal
 
 pub loop-col-init : goal.loop-col-init
 loop-col-init c =
-    let s = c.args.forest.now in
-    let sound = c.is_sound.ensures in
+    let trees = c.requires.board.trees in
     record {
       can = record {
-        sound = sound;
+        sound = trees.sound;
         board = c.requires.board;
         seat = c.requires.seat;
         took = c.requires.took;
         unset = c.requires.unset;
-        once = (c.sound_forests_have_trees.ensures s sound).rows_differ;
-        low = λ q d h. (c.sound_forests_have_trees.ensures s sound).claim_in_range q d h;
-        root = (c.leaves_end_paths.ensures.in_range s c.args.root c.args.leaf sound c.requires.leaf).0;
-        tree = λ q w. c.leaves_end_paths.ensures.tree s c.args.root q sound w;
+        once = trees.rows_differ;
+        low = trees.claim_in_range;
+        root = (trees.leaf_in_range c.args.root c.args.leaf c.requires.leaf).0;
+        tree = trees.path_root c.args.root;
       };
-      walk = come_to_leaf c.args.seat.now sound c.requires.leaf (c.leaves_end_paths.ensures.path s c.args.root c.args.leaf sound c.requires.leaf);
+      walk = come_to_leaf c.args.seat.now trees.sound c.requires.leaf (trees.leaf_path c.args.root c.args.leaf c.requires.leaf);
     }
 
 pub holder-requires : goal.holder-requires

@@ -12,4 +12,4 @@ pub returns-in-Ok : goal.returns-in-Ok
 returns-in-Ok g c =
     let long : length c.augment_under.new.seats ≡ length c.in_ok-board.seats.items = c.augment_under.auto.seats ∙ ap (λ (ts : List Seat). length ts) c.as_mut_slice.ensures.value in
     let over = written_over c.augment_under.new.seats c.in_ok-board.seats.items c.in_ok-board.seats.len long (search rules) in
-    c.closed_mates_are_exchanged.ensures c.args.forest.now c.in_ok-board.board c.augment_under.new.seats c.in-Ok.mates c.is_sound.ensures c.in_ok-board.ensures.board c.augment_under.ensures (subst (λ (ts : List Seat). SettlesAll c.in_ok-board.board c.in-Ok.mates ts) over c.in-Ok.ensures.ok)
+    c.augment_under.ensures.exchanged c.in-Ok.mates (subst (λ (ts : List Seat). SettlesAll c.in_ok-board.board c.in-Ok.mates ts) over c.in-Ok.ensures.ok)

@@ -1,7 +1,7 @@
 use Rattle.std.proofs.Common.{◌≡◌, ◌∙◌, ap, length, refl, replicate, rules}
 use Rattle.forest_core.specs.Tables.{holder_in}
 use Rattle.forest_core.specs.declared.claim_table.RowClaim.{RowClaim}
-use Rattle.forest_core.proofs.TableLemmas.{read_none, seen_new}
+use Rattle.forest_core.proofs.TableLemmas.{read_none, seen_alike, seen_new}
 use Rattle.bip_defs.proofs.Sets.{written_over}
 use Rattle.forest_core.proofs.claim_table.ClaimTable.clear_all.Goals as goal
 
@@ -12,3 +12,6 @@ returns-clause-none c = λ r.
     let long : c.self.inside.rows.len ≡ length c.self.inside.rows.items = search rules in
     let same : length c.fill.new.self ≡ length c.self.inside.rows.items = c.fill.ensures.len ∙ ap length c.as_mut_slice.ensures.value in
     seen_new (λ (w : RowClaim). holder_in w.holder) _ none _ r (read_none 4294967295 refl) (written_over c.fill.new.self c.self.inside.rows.items c.self.inside.rows.len same long ∙ filled)
+
+pub returns-clause-alike : goal.returns-clause-alike
+returns-clause-alike c = seen_alike (λ (w : RowClaim). w.holder) (λ (w : RowClaim). w.root) _

@@ -12,14 +12,14 @@ use Rattle.forest_core.proofs.forest.Forest.are_flipped.Goals as goal
 pub flipped-requires : goal.flipped-requires
 flipped-requires c =
     let on = read_among _ c.leaves-leaves.result.now _ c.loop-root-test.true c.loop-root-item.is in
-    (leaf_in_range c.args.self.now c.is_sound.ensures _ _ (subst (Among c.loop-root-item.result) c.leaves-leaves.ensures on)).0
+    (leaf_in_range c.args.self.now c.leaves-leaves.ensures.trees.sound _ _ (subst (Among c.loop-root-item.result) c.leaves-leaves.ensures.leaves on)).0
 
 pub returns-then-not-flipped : goal.returns-then-not-flipped
 returns-then-not-flipped c = (
   λ h. known_false h,
   λ all.
       let on = read_among _ c.leaves-leaves.result.now _ c.loop-root-test.true c.loop-root-item.is in
-      let root = row_among _ _ c.args.self.now.leaves (subst (Among c.loop-root-item.result) c.leaves-leaves.ensures on) in
+      let root = row_among _ _ c.args.self.now.leaves (subst (Among c.loop-root-item.result) c.leaves-leaves.ensures.leaves on) in
       absurd (true≢false (sym (c.flipped.ensures.1 (all _ root)) ∙ c.if-not-flipped.true)),
 )
 
@@ -33,6 +33,6 @@ pub returns : goal.returns
 returns c = (
   λ h x on.
       let le : length c.leaves-leaves.result.now ≤ c.loop-root.root-index = omega arith in
-      c.loop-root.invariant x (subst (λ (qs : List Place). Among x (roots_of qs)) (sym c.leaves-leaves.ensures ∙ sym (take_all c.loop-root.root-index c.leaves-leaves.result.now le)) on),
+      c.loop-root.invariant x (subst (λ (qs : List Place). Among x (roots_of qs)) (sym c.leaves-leaves.ensures.leaves ∙ sym (take_all c.loop-root.root-index c.leaves-leaves.result.now le)) on),
   λ all. refl,
 )

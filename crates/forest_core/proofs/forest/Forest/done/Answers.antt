@@ -9,6 +9,6 @@ none (x ∷ xs) e = absurd (let zero : length (x ∷ xs) ≡ 0 = eqb-true (lengt
 
 pub returns-then-is_empty : goal.returns-then-is_empty
 returns-then-is_empty c = (
-  λ h. (sym c.leaves.ensures ∙ none c.leaves.result.now (sym c.is_empty.ensures ∙ c.if-is_empty.true), c.is_closed.ensures.0 h),
+  λ h. (sym c.leaves.ensures.leaves ∙ none c.leaves.result.now (sym c.is_empty.ensures ∙ c.if-is_empty.true), c.is_closed.ensures.0 h),
   λ l. c.is_closed.ensures.1 l.1,
 )

@@ -28,6 +28,6 @@ invariant_of-self c =
     let legal = subst (λ (s : State). IsLegal s (Flip c.args.root)) (sym c.self.view_is) c.requires in
     let room = c.self.invariant.1 in (
       stored_flip_at (state_of c.self.inside) _ (tables_of c.self.inside) _ c.args.root _ c.self.invariant.0 legal c.push_reserved.ensures.items (ap (λ (i : ℕ). set c.self.inside.marks.items i true) c.number.ensures),
-      record { claims = room.claims; claim_roots = room.claim_roots; path = room.path; leaves = room.leaves; flipped = (let le = room.flipped in let more = c.push_reserved.ensures.capacity in omega (arith, le, more)) },
+      record { claims = room.claims; claim_roots = room.claim_roots; path = room.path; leaves = room.leaves; flipped = (let le = room.flipped in let more = c.push_reserved.ensures.capacity in omega (arith, le, more)); few = room.few },
       adopted_flip (state_of c.self.inside) _ c.args.root c.self.inside.adopted c.push_reserved.ensures.items c.self.invariant.2,
     )

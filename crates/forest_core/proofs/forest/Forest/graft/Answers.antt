@@ -8,9 +8,13 @@ use Rattle.forest_core.specs.Kept.{kept}
 use Rattle.bip_defs.specs.Forest.{State}
 use Rattle.forest_core.specs.Events.{AreKept}
 use Rattle.forest_core.proofs.Currents.{current_grown}
-use Rattle.forest_core.proofs.Renewals.{claims_within, exchanged_by, kept_stored, leaves_within, marks_within, same_claim_roots, roots_within, stored_graft_at}
+use Rattle.forest_core.proofs.Renewals.{claims_within, exchanged_by, kept_stored, leaves_within, marks_within, same_claim_roots, roots_within, stored_graft_at, tables_alike}
 use Rattle.forest_core.proofs.Roots.{claims_differ}
 use Rattle.bip_defs.proofs.Sets.{written_over}
+use Rattle.forest_core.proofs.RunLemmas.{current_covers, leads_event}
+use Rattle.forest_core.proofs.SettledForests.{grafted_rested}
+use Rattle.forest_core.specs.Sound.{IsSound}
+use Rattle.sp_ids.specs.declared.events.Event.TheVariants.{Graft}
 use Rattle.forest_core.proofs.forest.Forest.graft.Goals as goal
 
 pub keep-kept-requires : goal.keep-kept-requires
@@ -20,6 +24,7 @@ keep-kept-requires c = record {
   in_range = λ x h. roots_within (state_of c.self.inside) _ (tables_of c.self.inside) c.self.invariant.0 x (subst (Among x) c.as_mut_slice-roots.ensures.value h);
   differ = rw c.as_mut_slice-claims.ensures.value (claims_differ _ _ _ _ c.self.invariant.0.sound.claims);
   holders = rw c.as_mut_slice-claims.ensures.value c.self.invariant.0.held;
+  alike = tables_alike (state_of c.self.inside) _ (tables_of c.self.inside) c.self.invariant.0;
 }
 
 pub clear_leaves-requires-clause-cols : goal.clear_leaves-requires-clause-cols
@@ -63,7 +68,7 @@ invariant_of-self c =
     let marks = written_over c.clear_leaves.new.marks c.self.inside.marks.items c.self.inside.marks.len same long in (
       stored_graft_at (state_of c.self.inside) _ c.exchange.new.base (tables_of c.self.inside) _ _ _ _ k (exchanged c) (record {
         held = rw (left c) e.holders;
-        alike = c.is_alike.ensures.alike;
+        alike = c.keep-kept.ensures.alike;
         same = rw (left c) e.same;
         listed = rw (left c, left_roots c) (same_claim_roots c.self.inside.claimed.roots c.keep-kept.new.claimed.roots _ _ e.roots e.same);
         won = c.clear_leaves.ensures.leaf_of;
@@ -78,6 +83,7 @@ invariant_of-self c =
         path = (let le = c.exchange.ensures.room in let rows = k.holders_long in omega (arith, le, rows));
         leaves = (let le = room.leaves in let more = c.clear.ensures.capacity in omega (arith, le, more));
         flipped = (let le = room.flipped in let more = c.clear-2.ensures.capacity in omega (arith, le, more));
+        few = room.few;
       },
       rw c.exchange.ensures.adopted tt,
     )
@@ -95,3 +101,15 @@ returns-clause-claims c = subst (λ (s : State). AreKept s s.claims c.truncate.n
 
 pub returns-clause-size : goal.returns-clause-size
 returns-clause-size c = subst (λ (s : State). length c.exchange.new.base.pairs ≡ length s.base + length s.flipped) c.self.view_is (current_grown (state_of c.self.inside) _ c.self.invariant.0.sound (exchanged c).current).size
+
+sound : (c : goal.After-clear-2) → IsSound c.args.self.now
+sound c = subst IsSound c.self.view_is c.self.invariant.0.sound
+
+pub returns-clause-covered : goal.returns-clause-covered
+returns-clause-covered c = current_covers c.args.self.now _ (sound c) (returns-clause-renewed c).base
+
+pub returns-clause-rested : goal.returns-clause-rested
+returns-clause-rested c = λ settled. grafted_rested c.args.self.now _ (sound c) settled (returns-clause-renewed c, returns-clause-claims c)
+
+pub returns-clause-leads : goal.returns-clause-leads
+returns-clause-leads c = λ r lead. leads_event r c.args.self.now _ Graft lead c.requires (returns-clause-renewed c, returns-clause-claims c)

@@ -1,6 +1,5 @@
-use Rattle.std.proofs.Common.{ℕ, ap, arith}
+use Rattle.std.proofs.Common.{ℕ, arith}
 use Rattle.bip_defs.specs.Lists.{Among}
-use Rattle.bip_defs.specs.Matrix.{Matrix, cols}
 use Rattle.bip_defs.proofs.Sets.{row_among}
 use Rattle.forest_core.proofs.Members.{known_false, some_decides}
 use Rattle.forest_core.proofs.StoredForests.{root_with_leaf}
@@ -10,8 +9,8 @@ pub returns-then-number-cols-clause-leaf : goal.returns-then-number-cols-clause-
 returns-then-number-cols-clause-leaf c = (
   λ h. known_false h,
   λ h.
-      let lt = root_with_leaf c.args.self.now c.args.root c.is_sound.ensures h in
-      absurd (omega (arith, lt, c.if-number-cols.true, c.cols.ensures, ap (λ (a : Matrix). cols a) c.pattern.ensures, c.number.ensures)),
+      let lt = root_with_leaf c.args.self.now c.args.root c.cols.ensures.trees.sound h in
+      absurd (omega (arith, lt, c.if-number-cols.true, c.cols.ensures.cols, c.number.ensures)),
 )
 
 pub returns-clause-leaf : goal.returns-clause-leaf

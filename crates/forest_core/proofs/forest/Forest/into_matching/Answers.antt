@@ -6,6 +6,8 @@ use Rattle.forest_core.specs.Inside.{state_of, tables_of}
 use Rattle.bip_defs.specs.Forest.{State}
 use Rattle.forest_core.proofs.Currents.{current_grown}
 use Rattle.forest_core.proofs.Renewals.{exchanged_by}
+use Rattle.bip_defs.specs.Matching.{Covers}
+use Rattle.forest_core.proofs.RunLemmas.{current_covers}
 use Rattle.forest_core.proofs.forest.Forest.into_matching.Goals as goal
 
 -- the base matching has become the current one
@@ -20,3 +22,6 @@ returns-clause-matching c = subst (λ (s : State). IsMatchingOf s.matrix c.excha
 
 pub returns-clause-size : goal.returns-clause-size
 returns-clause-size c = subst (λ (s : State). length c.exchange.new.base.pairs ≡ length s.base + length s.flipped) c.self.view_is (current_grown (state_of c.self.inside) _ c.self.invariant.0.sound (exchanged c).current).size
+
+pub returns-clause-covered : goal.returns-clause-covered
+returns-clause-covered c = subst (λ (s : State). Covers s.base c.exchange.new.base.pairs) c.self.view_is (current_covers (state_of c.self.inside) _ c.self.invariant.0.sound (exchanged c).current)

@@ -1,6 +1,5 @@
-use Rattle.std.proofs.Common.{◌∙◌, ap, arith, eq-eqb, subst, sym}
+use Rattle.std.proofs.Common.{◌∙◌, arith, eq-eqb, subst, sym}
 use Rattle.std.proofs.lemmas.Bool.{eqb-true}
-use Rattle.bip_defs.specs.Matrix.{Matrix}
 use Rattle.bip_defs.proofs.Sets.{row_among}
 use Rattle.bip_defs.specs.Forest.{IsRootOfRow}
 use Rattle.forest_core.proofs.Members.{known_false}
@@ -12,14 +11,14 @@ pub returns-then-number-rows-clause-tree : goal.returns-then-number-rows-clause-
 returns-then-number-rows-clause-tree c = (
   λ h. known_false h,
   λ t.
-      let lt = (claim_in_range c.args.self.now c.is_sound.ensures c.args.row t.0 t.1).0 in
-      absurd (omega (arith, lt, c.if-number-rows.true, c.rows.ensures, ap (λ (a : Matrix). a.rows) c.pattern.ensures, c.number.ensures)),
+      let lt = (claim_in_range c.args.self.now c.rows.ensures.trees.sound c.args.row t.0 t.1).0 in
+      absurd (omega (arith, lt, c.if-number-rows.true, c.rows.ensures.rows, c.number.ensures)),
 )
 
 pub returns-in-Some-clause-tree : goal.returns-in-Some-clause-tree
 returns-in-Some-clause-tree c = (
   λ h. subst (λ x. IsRootOfRow c.args.self.now.base c.args.self.now.claims x c.args.row) (eqb-true _ _ (sym c.eq.ensures ∙ h)) c.in-Some.ensures.found,
-  λ t. c.eq.ensures ∙ eq-eqb _ _ (one_root_of_row c.args.self.now c.is_sound.ensures _ _ c.args.row c.in-Some.ensures.found t),
+  λ t. c.eq.ensures ∙ eq-eqb _ _ (one_root_of_row c.args.self.now c.rows.ensures.trees.sound _ _ c.args.row c.in-Some.ensures.found t),
 )
 
 pub returns-in-None-clause-tree : goal.returns-in-None-clause-tree

@@ -5,8 +5,12 @@ use Rattle.forest_core.specs.Paths.{IsExchanged}
 use Rattle.forest_core.specs.Inside.{state_of, tables_of}
 use Rattle.bip_defs.specs.Forest.{State}
 use Rattle.forest_core.proofs.Currents.{current_grown}
-use Rattle.forest_core.proofs.Renewals.{are_cleared, claims_within, exchanged_by, leaves_within, marks_within, stored_rebuild_at}
+use Rattle.forest_core.proofs.Renewals.{are_cleared, claims_within, exchanged_by, leaves_within, marks_within, stored_rebuild_at, tables_alike}
 use Rattle.bip_defs.proofs.Sets.{written_over}
+use Rattle.forest_core.proofs.RunLemmas.{current_covers, leads_event}
+use Rattle.forest_core.proofs.SettledForests.{rebuilt_rested}
+use Rattle.forest_core.specs.Sound.{IsSound}
+use Rattle.sp_ids.specs.declared.events.Event.TheVariants.{Rebuild}
 use Rattle.forest_core.proofs.forest.Forest.rebuild.Goals as goal
 
 pub clear_claims-requires-clause-rows : goal.clear_claims-requires-clause-rows
@@ -14,6 +18,9 @@ clear_claims-requires-clause-rows c = λ r x h. claims_within (state_of c.self.i
 
 pub clear_claims-requires-clause-holders : goal.clear_claims-requires-clause-holders
 clear_claims-requires-clause-holders c = rw c.as_slice-2.ensures.value c.self.invariant.0.held
+
+pub clear_claims-requires-clause-alike : goal.clear_claims-requires-clause-alike
+clear_claims-requires-clause-alike c = tables_alike (state_of c.self.inside) _ (tables_of c.self.inside) c.self.invariant.0
 
 pub clear_leaves-requires-clause-cols : goal.clear_leaves-requires-clause-cols
 clear_leaves-requires-clause-cols c = λ x r h.
@@ -37,13 +44,14 @@ invariant_of-self c =
     let long : c.self.inside.marks.len ≡ length c.self.inside.marks.items = search rules in
     let same : length c.clear_leaves.new.marks ≡ length c.self.inside.marks.items = c.clear_leaves.auto.marks ∙ ap length c.as_mut_slice.ensures.value in
     let marks = written_over c.clear_leaves.new.marks c.self.inside.marks.items c.self.inside.marks.len same long in (
-      stored_rebuild_at (state_of c.self.inside) _ c.exchange.new.base (tables_of c.self.inside) _ _ _ _ k (exchanged c) (are_cleared (tables_of c.self.inside) _ _ c.clear.ensures.items c.clear-2.ensures.items c.clear_claims.ensures.holders c.is_alike.ensures.alike c.clear_leaves.ensures.leaf_of (rw marks c.clear_leaves.ensures.marks) c.clear_claims.ensures.long c.clear_leaves.ensures.long (ap length marks ∙ same)) c.clear.ensures.items c.clear-3.ensures.items c.clear-4.ensures.items,
+      stored_rebuild_at (state_of c.self.inside) _ c.exchange.new.base (tables_of c.self.inside) _ _ _ _ k (exchanged c) (are_cleared (tables_of c.self.inside) _ _ c.clear.ensures.items c.clear-2.ensures.items c.clear_claims.ensures.holders c.clear_claims.ensures.alike c.clear_leaves.ensures.leaf_of (rw marks c.clear_leaves.ensures.marks) c.clear_claims.ensures.long c.clear_leaves.ensures.long (ap length marks ∙ same)) c.clear.ensures.items c.clear-3.ensures.items c.clear-4.ensures.items,
       record {
         claims = (let le = room.claims in let more = c.clear.ensures.capacity in omega (arith, le, more));
         claim_roots = (let le = room.claim_roots in let more = c.clear-2.ensures.capacity in omega (arith, le, more));
         path = (let le = c.exchange.ensures.room in let rows = k.holders_long in omega (arith, le, rows));
         leaves = (let le = room.leaves in let more = c.clear-3.ensures.capacity in omega (arith, le, more));
         flipped = (let le = room.flipped in let more = c.clear-4.ensures.capacity in omega (arith, le, more));
+        few = room.few;
       },
       rw c.exchange.ensures.adopted tt,
     )
@@ -58,3 +66,15 @@ returns-clause-renewed c = record {
 
 pub returns-clause-size : goal.returns-clause-size
 returns-clause-size c = subst (λ (s : State). length c.exchange.new.base.pairs ≡ length s.base + length s.flipped) c.self.view_is (current_grown (state_of c.self.inside) _ c.self.invariant.0.sound (exchanged c).current).size
+
+sound : (c : goal.After-clear-4) → IsSound c.args.self.now
+sound c = subst IsSound c.self.view_is c.self.invariant.0.sound
+
+pub returns-clause-covered : goal.returns-clause-covered
+returns-clause-covered c = current_covers c.args.self.now _ (sound c) (returns-clause-renewed c).base
+
+pub returns-clause-rested : goal.returns-clause-rested
+returns-clause-rested c = rebuilt_rested c.args.self.now _ (returns-clause-renewed c, c.clear.ensures.items)
+
+pub returns-clause-leads : goal.returns-clause-leads
+returns-clause-leads c = λ r lead. leads_event r c.args.self.now _ Rebuild lead c.requires (returns-clause-renewed c, c.clear.ensures.items)

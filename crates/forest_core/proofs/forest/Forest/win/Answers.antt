@@ -19,7 +19,7 @@ pub write-requires-clause-value : goal.write-requires-clause-value
 write-requires-clause-value c =
     let legal = subst (λ (s : State). IsLegal s (Win c.args.root c.args.leaf)) (sym c.self.view_is) c.requires in
     let lt : c.args.leaf < (state_of c.self.inside).matrix.rows = (claim_in_range (state_of c.self.inside) c.self.invariant.0.sound c.args.leaf legal.3.0 legal.3.1).0 in
-    omega (arith, lt, c.is_pattern.ensures.few_rows, c.number-2.ensures)
+    omega (arith, lt, c.self.invariant.1.few.0, c.number-2.ensures)
 
 pub push_reserved-requires : goal.push_reserved-requires
 push_reserved-requires c =
@@ -35,7 +35,7 @@ invariant_of-self c =
     let stored = stored_win_at (state_of c.self.inside) _ (tables_of c.self.inside) _ c.args.root c.args.leaf _ c.self.invariant.0 legal c.push_reserved.ensures.items
     (c.write.ensures ∙ ap (λ (i : ℕ). set c.self.inside.leaf_of i (Some c.number-2.result)) c.number.ensures ∙ ap (λ (x : ℕ). set c.self.inside.leaf_of c.args.root (Some x)) c.number-2.ensures) in (
       stored,
-      record { claims = room.claims; claim_roots = room.claim_roots; path = room.path; leaves = (let le = room.leaves in let more = c.push_reserved.ensures.capacity in omega (arith, le, more)); flipped = room.flipped },
+      record { claims = room.claims; claim_roots = room.claim_roots; path = room.path; leaves = (let le = room.leaves in let more = c.push_reserved.ensures.capacity in omega (arith, le, more)); flipped = room.flipped; few = room.few },
       adopted_win (state_of c.self.inside) _ (c.args.root, c.args.leaf) c.self.inside.adopted c.self.invariant.0.sound stored.sound c.push_reserved.ensures.items c.self.invariant.2,
     )
 
