@@ -142,7 +142,6 @@ fn work_from<R: Threads + Sync, G: Gate, T: Send, E: Send + Drop, W: Work<T, E>>
     let half = workers.len() / 2;
     let (prefix, suffix) = workers.split_at_mut(half);
     let next = first + half as u32;
-    halves_are_ready(work, first, next, prefix, suffix);
     let (low, high) = join_mut(
         rt,
         &mut || -> Result<(), E>
@@ -202,19 +201,3 @@ fn do_part<G: Gate, T, E, W: Work<T, E>>(
     gate.arrive(number);
     work.run(number, worker)
 }
-
-// The workers of both halves are ready, where those of the whole are.
-fn halves_are_ready<T, E, W: Work<T, E>>(
-    work: &W,
-    first: u32,
-    next: u32,
-    prefix: &[T],
-    suffix: &[T],
-)
-    requires whole { AreReady (W.can_begin work.now) first (prefix.now ++ suffix.now) }
-    requires next { next ≡ first + length prefix.now }
-    requires some { (0 < length prefix.now) × (0 < length suffix.now) }
-    ensures prefix { AreReady (W.can_begin work.now) first prefix.now }
-    ensures suffix { AreReady (W.can_begin work.now) next suffix.now }
-    ensures some { (0 < length prefix.now) × (0 < length suffix.now) }
-{}
