@@ -16,9 +16,6 @@ one : {X : Type 0} (P : X → Type 0) (x : X) → P x → (y : X) → Among y (x
 one P x p y (inl e) = subst P (sym e) p
 one P x p y (inr h) = absurd h
 
-last : {X : Type 0} (x : X) (xs : List X) → Among x (xs ++ x ∷ [])
-last x xs = among_right x xs (x ∷ []) (inl refl)
-
 pub if_found : {Q : Type 0} (o : Option ℕ) → is_some o ≡ true → ((x : ℕ) → o ≡ Some x → Q) → Q
 if_found None e f = absurd (true≢false (sym e))
 if_found (Some x) e f = f x refl
@@ -158,18 +155,18 @@ advanced s own v w p = record {
 }
 
 pub holder_claimed : (w : WorkerState) (r c : ℕ) (found : Option ℕ) → KnowsHolder (work_after_claim w r c found) r
-holder_claimed w r c None = (c, inr (inl (last (r, c) w.seat.listed.claims)))
-holder_claimed w r c (Some d) = (d, inr (inr (last (row_word r (Some d)) w.seat.listed.seen)))
+holder_claimed w r c None = (c, inr (inl (among_right (r, c) w.seat.listed.claims _ (inl refl))))
+holder_claimed w r c (Some d) = (d, inr (inr (among_right (row_word r (Some d)) w.seat.listed.seen _ (inl refl))))
 
 pub leaf_won : (w : WorkerState) (x r : ℕ) (found : Option ℕ) → KnowsLeaf (work_after_win w x r found) x
-leaf_won w x r None = (r, inr (inl (last (x, r) w.seat.listed.wins)))
-leaf_won w x r (Some q) = (q, inr (inr (last (root_word x (Some q)) w.seat.listed.seen)))
+leaf_won w x r None = (r, inr (inl (among_right (x, r) w.seat.listed.wins _ (inl refl))))
+leaf_won w x r (Some q) = (q, inr (inr (among_right (root_word x (Some q)) w.seat.listed.seen _ (inl refl))))
 
 pub holder_seen : (w : WorkerState) (r c : ℕ) → KnowsHolder (work_after_look w (row_word r (Some c))) r
-holder_seen w r c = (c, inr (inr (last (row_word r (Some c)) w.seat.listed.seen)))
+holder_seen w r c = (c, inr (inr (among_right (row_word r (Some c)) w.seat.listed.seen _ (inl refl))))
 
 pub leaf_seen : (w : WorkerState) (x r : ℕ) → KnowsLeaf (work_after_look w (root_word x (Some r))) x
-leaf_seen w x r = (r, inr (inr (last (root_word x (Some r)) w.seat.listed.seen)))
+leaf_seen w x r = (r, inr (inr (among_right (root_word x (Some r)) w.seat.listed.seen _ (inl refl))))
 
 -- a win changes nothing of what a worker knows of rows
 pub holder_over_win : (w : WorkerState) (x r q : ℕ) (found : Option ℕ) → KnowsHolder w q → KnowsHolder (work_after_win w x r found) q
@@ -205,7 +202,7 @@ claim_settles s own w r c x free can is = settled_one s own w (work_after_claim 
 pub progress_both : (s : State) (own : Share) (w : WorkerState) (r c x : ℕ) (free : Bool) (found : Option ℕ) → CanClaim s own r c x free → free ≡ true → Progress s own w (work_after_win (work_after_claim w r c None) x r found)
 progress_both s own w r c x free found can is =
     let after = work_after_claim w r c None in
-    progress_on s own w after (work_after_win after x r found) (progress_claim s own w r c None can.is_own can.entry can.inside) (progress_win s own after x r found (can.is_free is, (c, last (r, c) w.fresh_claims, can.rooted)))
+    progress_on s own w after (work_after_win after x r found) (progress_claim s own w r c None can.is_own can.entry can.inside) (progress_win s own after x r found (can.is_free is, (c, among_right (r, c) w.fresh_claims _ (inl refl), can.rooted)))
 
 pub both_settle : (s : State) (own : Share) (w : WorkerState) (r c x : ℕ) (free : Bool) (found : Option ℕ) → CanClaim s own r c x free → free ≡ true → HasSettled s w → HasSettled s (work_after_win (work_after_claim w r c None) x r found)
 both_settle s own w r c x free found can is =
