@@ -15,9 +15,9 @@ use level_sharing::settled_workers_agree;
 use sp_ids::{Col, Row};
 
 /// Makes the workers' fresh claims on the forest, in the order of workers, and then their fresh
-/// wins, by which it grows, and settles the workers. Where board and workers listed the claims and
-/// the leaves that this leaves, as they do after a level, and after claims and wins of one's own
-/// too, they agree with the forest.
+/// wins, by which it grows, and settles the workers. If board and workers listed the claims and the
+/// leaves of the forest afterwards, as they do after a level, and also after a caller's own claims
+/// and wins, they agree with it.
 ///
 /// Takes no memory. Work: constant for each fresh claim and win.
 pub fn absorb(forest: &mut Forest, workers: &mut [Worker])
