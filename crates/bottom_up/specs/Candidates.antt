@@ -7,7 +7,7 @@ use Rattle.bip_defs.specs.Matrix.{IsEntry, cols}
 use Rattle.claim_words.specs.Board.{Board}
 use Rattle.claim_words.specs.WorkerState.{WorkerState}
 use Rattle.level_sharing.specs.Candidates.{HasGathered}
-use Rattle.level_sharing.specs.Progress.{IsThroughRow, Progress}
+use Rattle.level_sharing.specs.Progress.{GoesOn, IsThroughRow, KnowsWon}
 use Rattle.level_sharing.specs.Shares.{of_rows}
 use Rattle.level_sharing.specs.declared.candidate.Candidate.{Candidate}
 
@@ -29,9 +29,16 @@ FitsRows s rows x = Among x.row rows × IsCandidate s x
 abbrev pub HasGatheredRows : State → Board → List ℕ → WorkerState → List Candidate → Type 0
 HasGatheredRows s b rows w xs = HasGathered s b (FitsRows s rows) w xs
 
--- the worker has made progress by these rows
+-- the worker has made progress by these rows, since whatever state
 abbrev pub Advances : State → List ℕ → WorkerState → WorkerState → Type 0
-Advances s rows v w = Progress s (of_rows rows) v w
+Advances s rows v w = GoesOn s (of_rows rows) v w
+
+-- it has a seat of the same board, and knows still what it knew to be won and what it was through
+-- with
+pub record StaysThrough (s : State) (v w : WorkerState) : Type 0 where
+  pub seat : w.seat.board ≡ v.seat.board
+  pub won : (c : ℕ) → KnowsWon s v c → KnowsWon s w c
+  pub rows : (r : ℕ) → IsThroughRow s v r → IsThroughRow s w r
 
 -- the worker is through with the row, or has gathered it
 abbrev pub IsCoveredRow : State → WorkerState → List Candidate → ℕ → Type 0

@@ -9,12 +9,9 @@ ghost use Rattle.level_sharing.specs.Growth.{AreAttached, ShowsGrown, fresh_even
 ghost use Rattle.level_sharing.specs.Shares.{KeepToRows};
 
 use crate::search::BottomUpSearch;
-use claim_words::{ClaimBoard, Worker, workers_are_few};
-use forest_core::{Forest, new_pairs_run};
-use level_sharing::{
-    Sharing, levels_are_legal, levels_are_shown, levels_go_through_rows, levels_keep_to_shares,
-    progress_keeps_seats, share_work, workers_are_at_the_start,
-};
+use claim_words::{ClaimBoard, Worker};
+use forest_core::Forest;
+use level_sharing::{Sharing, share_level};
 use sp_ids::{OutOfMemory, Row};
 use sp_ports::Gate;
 use std::thread::Threads;
@@ -25,8 +22,8 @@ use std::thread::Threads;
 ///
 /// Of w workers, the worker i has the places from `i * l / w` up to `(i + 1) * l / w` of a list of
 /// l free rows; it calls `gate.arrive(i)` once, whether its share is empty or not. Workers run at
-/// once where there is enough to do (`share_work`), as far as threads can be had, and want of a
-/// thread changes nothing. A row that is claimed already, or is listed twice, is not claimed again.
+/// once if there is enough to do (`share_work`) and threads can be started; if a thread cannot be
+/// started, the result is the same. A row that is claimed already, or is listed twice, is not claimed again.
 /// Returns `OutOfMemory` if a fresh list cannot grow: what is listed then stands, and the level
 /// is not done. Memory: 8 bytes for each fresh claim and win, and 8 KiB of the stack for each
 /// worker. Work: at most two looks at each entry of the free rows, and two exchanges for each of
@@ -56,7 +53,7 @@ pub fn attach<R: Threads + Sync, G: Gate>(
     attach_under(rt, forest, board, free, workers, &Sharing::usual(gate))
 }
 
-/// [`attach`], where it is told how many rows are worth threads.
+/// [`attach`], with the number of rows that are worth threads in `sharing`.
 pub fn attach_under<R: Threads + Sync, G: Gate>(
     rt: &R,
     forest: &Forest,
@@ -76,22 +73,6 @@ pub fn attach_under<R: Threads + Sync, G: Gate>(
     ensures settled { OnOk result (IsSettled (grown forest.entry.now workers.new)) }
     ensures rows { OnOk result (AreAttached forest.entry.now workers.new free.entry.now) }
 {
-    workers_are_few(workers);
-    new_pairs_run();
-    workers_are_at_the_start();
-    progress_keeps_seats();
-    levels_keep_to_shares();
-    levels_are_legal();
-    levels_are_shown();
-    levels_go_through_rows();
-    let count = workers.len();
-    let search = BottomUpSearch {
-        forest,
-        board,
-        free,
-        workers: count,
-    };
-    let result = share_work(rt, sharing, &search, free.len(), workers);
-    board.gather(workers);
-    result
+    let search = BottomUpSearch::new(forest, board, free, workers.len());
+    share_level(rt, sharing, board, &search, free.len(), workers)
 }

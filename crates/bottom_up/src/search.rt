@@ -1,23 +1,23 @@
 //! What one worker does in a level.
 
-ghost use Rattle.std.specs.Prelude.{◌≡◌, ℕ, ◌<◌, false, true, IfNone, IfSome, OnOk};
-ghost use Rattle.bip_defs.specs.Forest.{InForest};
+ghost use Rattle.std.specs.Prelude.{◌≡◌, ℕ, ◌<◌, List, false, true, IfNone, IfSome, OnOk};
+ghost use Rattle.bip_defs.specs.Forest.{InForest, grown_by};
 ghost use Rattle.bip_defs.specs.Lists.{Among};
 ghost use Rattle.bip_defs.specs.Matrix.{cols};
+ghost use Rattle.forest_core.specs.Events.{Runs};
+ghost use Rattle.level_sharing.specs.LevelWork.{AreLegal};
+ghost use Rattle.sp_ids.specs.Events.{claims_then_wins};
 ghost use Rattle.arrayvec.specs.ArrayVec.{array_vec_len};
-ghost use Rattle.bottom_up.specs.Candidates.{Advances, HasGatheredRows, IsCandidate, IsCoveredRow, RowsStayCovered};
+ghost use Rattle.bottom_up.specs.Candidates.{Advances, HasGatheredRows, IsCandidate, IsCoveredRow, RowsStayCovered, StaysThrough};
 ghost use Rattle.level_sharing.specs.Candidates.{IsRootFor};
 ghost use Rattle.bottom_up.specs.BottomUpSearch.{IsRowSearch};
-ghost use Rattle.level_sharing.specs.Progress.{HasSettled, IsThroughRow, IsThroughRows, KnowsWon, Progress};
+ghost use Rattle.level_sharing.specs.Progress.{GoesOn, HasSettled, IsThroughRow, IsThroughRows, KnowsWon};
 ghost use Rattle.level_sharing.specs.Shares.{IsOwn, Share};
 
 use arrayvec::ArrayVec;
 use claim_words::{ClaimBoard, Worker};
-use forest_core::Forest;
-use level_sharing::{
-    Candidate, Work, claim_row, finds_leaf, share, shares_cover_a_list, steps_are_progress,
-    steps_are_remembered, workers_stay_through,
-};
+use forest_core::{Forest, new_pairs_run};
+use level_sharing::{Candidate, Work, claim_row, finds_leaf, share};
 use sp_ids::{Col, OutOfMemory, Row};
 
 /// The level's forest, board and free rows, and how many workers share them.
@@ -31,20 +31,19 @@ pub(crate) struct BottomUpSearch<'a, 'p> {
 }
 
 impl<'a, 'p> Work<Worker, OutOfMemory> for BottomUpSearch<'a, 'p> {
-    ghost use Rattle.level_sharing.specs.Progress.{IsAtStart, IsThroughRows, Progress};
+    ghost use Rattle.level_sharing.specs.Progress.{GoesOn, IsAtStart, IsThroughRows};
     ghost use Rattle.level_sharing.specs.Shares.{share_of, shares_of_rows};
 
     ghost can_begin = { λ work number v.
         IsAtStart work.forest.now work.board.now work.workers number v };
 
     ghost leaves = { λ work number v w.
-        Progress work.forest.now (shares_of_rows work.free.now work.workers number) v w };
+        GoesOn work.forest.now (shares_of_rows work.free.now work.workers number) v w };
 
     ghost completes = { λ work number v w.
         IsThroughRows work.forest.now (share_of work.free.now work.workers number) w };
 
     fn run(&self, number: u32, worker: &mut Worker) -> Result<(), OutOfMemory> {
-        shares_cover_a_list();
         let own = BottomUpSearch {
             forest: self.forest,
             board: self.board,
@@ -56,6 +55,30 @@ impl<'a, 'p> Work<Worker, OutOfMemory> for BottomUpSearch<'a, 'p> {
 }
 
 impl<'a, 'p> BottomUpSearch<'a, 'p> {
+    /// A level that so many workers share. Legal claims and wins are legal events on its forest.
+    pub(crate) fn new(
+        forest: &'a Forest<'p>,
+        board: &'a ClaimBoard,
+        free: &'a [Row],
+        workers: usize,
+    ) -> BottomUpSearch<'a, 'p>
+        requires over { IsRowSearch forest.now board.now free.now }
+        ensures forest { result.forest.now ≡ forest.now }
+        ensures board { result.board.now ≡ board.now }
+        ensures free { result.free.now ≡ free.now }
+        ensures workers { result.workers ≡ workers }
+        ensures runs { (claims wins : List (ℕ × ℕ)) → AreLegal forest.now claims wins
+            → Runs forest.now (claims_then_wins claims wins) (grown_by forest.now claims wins) }
+    {
+        new_pairs_run();
+        BottomUpSearch {
+            forest,
+            board,
+            free,
+            workers,
+        }
+    }
+
     // The worker looks for a column for each of these rows. It gathers the rows that it may claim,
     // with looks alone, and claims them once there are 512, or no row is left.
     fn go_through(&self, worker: &mut Worker) -> Result<(), OutOfMemory>
@@ -65,7 +88,6 @@ impl<'a, 'p> BottomUpSearch<'a, 'p> {
         ensures through { OnOk result
             (IsThroughRows self.now.forest.now self.now.free.now worker.new) }
     {
-        steps_are_progress();
         let mut candidates = ArrayVec::new();
         for row in self.free {
             self.gather(*row, worker, &mut candidates)?;
@@ -91,8 +113,6 @@ impl<'a, 'p> BottomUpSearch<'a, 'p> {
         ensures row { OnOk result
             (IsCoveredRow self.now.forest.now worker.new candidates.new.items row) }
     {
-        steps_are_progress();
-        workers_stay_through();
         match self.find(row, worker) {
             None => Ok(()),
             Some(candidate) => {
@@ -118,7 +138,6 @@ impl<'a, 'p> BottomUpSearch<'a, 'p> {
             candidates.old.items worker.new candidates.new.items) }
         ensures room { OnOk result (array_vec_len candidates.new < 512) }
     {
-        steps_are_progress();
         if candidates.is_full() {
             self.claim_each(candidates.as_slice(), worker)?;
             candidates.clear();
@@ -138,8 +157,6 @@ impl<'a, 'p> BottomUpSearch<'a, 'p> {
             → IsCoveredRow self.now.forest.now worker.old candidates.now r
             → IsThroughRow self.now.forest.now worker.new r) }
     {
-        steps_are_progress();
-        workers_stay_through();
         for candidate in candidates {
             self.claim(*candidate, worker)?;
         }
@@ -152,11 +169,11 @@ impl<'a, 'p> BottomUpSearch<'a, 'p> {
         requires seat { worker.old.seat.board ≡ self.now.board.now }
         requires settled { HasSettled self.now.forest.now worker.old }
         ensures progress { (own : Share) → ((c : ℕ) → IsOwn own (candidate.row, c))
-            → Progress self.now.forest.now own worker.old worker.new }
+            → GoesOn self.now.forest.now own worker.old worker.new }
+        ensures stays { StaysThrough self.now.forest.now worker.old worker.new }
         ensures settled { OnOk result (HasSettled self.now.forest.now worker.new) }
         ensures through { OnOk result (IsThroughRow self.now.forest.now worker.new candidate.row) }
     {
-        steps_are_progress();
         if !finds_leaf(self.board, worker, candidate.root) {
             return self.take(candidate, worker);
         }
@@ -172,7 +189,8 @@ impl<'a, 'p> BottomUpSearch<'a, 'p> {
         requires seat { worker.old.seat.board ≡ self.now.board.now }
         requires settled { HasSettled self.now.forest.now worker.old }
         ensures progress { (own : Share) → ((c : ℕ) → IsOwn own (candidate.row, c))
-            → Progress self.now.forest.now own worker.old worker.new }
+            → GoesOn self.now.forest.now own worker.old worker.new }
+        ensures stays { StaysThrough self.now.forest.now worker.old worker.new }
         ensures settled { OnOk result (HasSettled self.now.forest.now worker.new) }
         ensures through { OnOk result (IsThroughRow self.now.forest.now worker.new candidate.row) }
     {
@@ -186,14 +204,13 @@ impl<'a, 'p> BottomUpSearch<'a, 'p> {
         requires row { row < self.now.forest.now.matrix.rows }
         requires seat { worker.old.seat.board ≡ self.now.board.now }
         requires settled { HasSettled self.now.forest.now worker.old }
-        ensures progress { (own : Share) → Progress self.now.forest.now own worker.old worker.new }
+        ensures progress { (own : Share) → GoesOn self.now.forest.now own worker.old worker.new }
+        ensures stays { StaysThrough self.now.forest.now worker.old worker.new }
         ensures settled { HasSettled self.now.forest.now worker.new }
         ensures of_row { IfSome result (λ x. x.row ≡ row) }
         ensures candidate { IfSome result (λ x. IsCandidate self.now.forest.now x) }
         ensures none { IfNone result (IsThroughRow self.now.forest.now worker.new row) }
     {
-        steps_are_progress();
-        steps_are_remembered();
         let cols = self.forest.pattern().cols_of(row);
         for col in cols {
             if let Some(root) = self.root_without_leaf(*col, worker) {
@@ -215,13 +232,13 @@ impl<'a, 'p> BottomUpSearch<'a, 'p> {
         requires col { col < cols self.now.forest.now.matrix }
         requires seat { worker.old.seat.board ≡ self.now.board.now }
         requires settled { HasSettled self.now.forest.now worker.old }
-        ensures progress { (own : Share) → Progress self.now.forest.now own worker.old worker.new }
+        ensures progress { (own : Share) → GoesOn self.now.forest.now own worker.old worker.new }
+        ensures stays { StaysThrough self.now.forest.now worker.old worker.new }
         ensures settled { HasSettled self.now.forest.now worker.new }
         ensures root { IfSome result (λ x. IsRootFor self.now.forest.now col x) }
         ensures none { IfNone result (InForest self.now.forest.now col
             → KnowsWon self.now.forest.now worker.new col) }
     {
-        steps_are_progress();
         let root = self.forest.root_of(col)?;
         if finds_leaf(self.board, worker, root) {
             return None;

@@ -1,7 +1,7 @@
 -- Runs of events, part by part, and workers that are settled one after the other.
-use Rattle.std.proofs.Common.{◌≡◌, ◌∙◌, ℕ, ◌+◌, ◌<◌, List, [], ◌∷◌, ◌++◌, flat_map, get_or, length, map, set, take, drop, sym, ap, ap₂, subst, arith, append_assoc, append-nil, length-set}
+use Rattle.std.proofs.Common.{◌≡◌, ◌∙◌, ℕ, ◌+◌, ◌<◌, ◌≤◌, List, [], ◌∷◌, ◌++◌, flat_map, get_or, length, map, set, take, drop, sym, ap, ap₂, subst, arith, append_assoc, append-nil, length-set}
 use Rattle.std.proofs.lemmas.Grind.{drop_more_same, flat_map-append}
-use Rattle.std.proofs.lemmas.List.{drop-set-lt, drop_more, map-append, take-append-drop, take_more, take_more_set}
+use Rattle.std.proofs.lemmas.List.{drop-set-lt, drop_more, map-append, take-append-drop, take_all, take_more, take_more_set}
 use Rattle.bip_defs.specs.Forest.{State, grown_by}
 use Rattle.claim_words.specs.WorkerState.{WorkerState, fresh_claims_of, fresh_wins_of}
 use Rattle.forest_core.specs.Events.{Becomes, Grows, IsLegal, Runs}
@@ -10,24 +10,17 @@ use Rattle.sp_ids.specs.Events.{claim_events, claims_then_wins, win_events}
 use Rattle.sp_ids.specs.declared.events.Event.{Event}
 use Rattle.sp_ids.specs.declared.events.Event.TheVariants.{Claim, Win}
 
--- a run of some events and then of others is a run of each, as the laws of forests say
-abbrev pub Splits : Type 0
-Splits = (s u : State) (es ds : List Event) → Runs s (es ++ ds) u → (t : State) × Runs s es t × Runs t ds u
-
 -- One kind of event, of which each adds a pair to one of the forest's lists.
-module _ (split : Splits) (event : ℕ × ℕ → Event) (add : State → List (ℕ × ℕ) → State)
+module _ (event : ℕ × ℕ → Event) (add : State → List (ℕ × ℕ) → State)
     (none : (s : State) → add s [] ≡ s) (joins : (s : State) (ps qs : List (ℕ × ℕ)) → add (add s ps) qs ≡ add s (ps ++ qs))
     (adds : (s t : State) (p : ℕ × ℕ) → Becomes s (event p) t → t ≡ add s (p ∷ [])) where
-  pub added : (s t : State) (ps : List (ℕ × ℕ)) → Runs s (map event ps) t → t ≡ add s ps
-  added s t [] r = r ∙ sym (none s)
-  added s t (p ∷ ps) (legal, u, becomes, r) = added u t ps r ∙ ap (λ (v : State). add v ps) (adds s u p becomes) ∙ joins s (p ∷ []) ps
-
   -- a run of the events of some pairs and then of other events
   pub split_at : (s t : State) (ps : List (ℕ × ℕ)) (ds : List Event) → Runs s (map event ps ++ ds) t → Runs s (map event ps) (add s ps) × Runs (add s ps) ds t
-  split_at s t ps ds r =
-      let (u, prefix, suffix) = split s t (map event ps) ds r in
-      let is : u ≡ add s ps = added s u ps prefix in
-      (subst (Runs s (map event ps)) is prefix, subst (λ (v : State). Runs v ds t) is suffix)
+  split_at s t [] ds r = (none s, subst (λ (v : State). Runs v ds t) (sym (none s)) r)
+  split_at s t (p ∷ ps) ds (legal, u, becomes, r) =
+      let (prefix, suffix) = split_at u t ps ds r in
+      let is : add u ps ≡ add s (p ∷ ps) = ap (λ (v : State). add v ps) (adds s u p becomes) ∙ joins s (p ∷ []) ps in
+      ((legal, u, becomes, subst (Runs u (map event ps)) is prefix), subst (λ (v : State). Runs v ds t) is suffix)
 
   -- in a run each event is legal after those before it
   pub next_legal : (s t : State) (ps : List (ℕ × ℕ)) (i : ℕ) (p d : ℕ × ℕ) → Runs s (map event ps) t → i < length ps → p ≡ get_or ps i d → IsLegal (add s (take i ps)) (event p)
@@ -87,9 +80,9 @@ pub by_win : (s t : State) (p : ℕ × ℕ) → Becomes s (win_event p) t → t 
 by_win s t p e = e
 
 -- a level's claims run, and then its wins
-pub level_runs : (split : Splits) (s : State) (claims wins : List (ℕ × ℕ)) → Runs s (claims_then_wins claims wins) (grown_by s claims wins)
+pub level_runs : (s : State) (claims wins : List (ℕ × ℕ)) → Runs s (claims_then_wins claims wins) (grown_by s claims wins)
     → Runs s (claim_events claims) (with_claims s claims) × Runs (with_claims s claims) (win_events wins) (grown_by s claims wins)
-level_runs split s claims wins r = split_at split claim_event with_claims no_claims more_claims by_claim s (grown_by s claims wins) claims (win_events wins) r
+level_runs s claims wins r = split_at claim_event with_claims no_claims more_claims by_claim s (grown_by s claims wins) claims (win_events wins) r
 
 -- A list whose elements are changed one after the other.
 
@@ -113,6 +106,12 @@ module _ {X : Type 0} (change : X → X) where
         rest = drop-set-lt (i + 1) now i y (omega arith) ∙ drop_more_same now was i changed.rest;
         long = length-set now i y ∙ changed.long;
       }
+
+  -- once all are changed
+  pub changed_all : (i : ℕ) (was now : List X) → IsChangedTo i was now → length was ≤ i → now ≡ map change was
+  changed_all i was now changed past =
+      let ends : length now ≤ i = let long = changed.long in omega (arith, past, long) in
+      sym (take_all i now ends) ∙ changed.prefix ∙ ap (map change) (take_all i was past)
 
 -- the workers' fresh lists let the forest grow
 pub level_grows : (s t : State) (ws : List WorkerState) → ((u v : State) (claims wins : List (ℕ × ℕ)) → Runs u (claims_then_wins claims wins) v → Grows u v) → Runs s (fresh_events ws) (grown s ws) → t ≡ grown s ws → Grows s t

@@ -7,7 +7,7 @@ use Rattle.bip_defs.proofs.Sets.{among_last, among_left, among_right}
 use Rattle.claim_words.specs.Board.{Board}
 use Rattle.claim_words.specs.WorkerState.{WorkerState}
 use Rattle.frontier_levels.specs.TopDownSearch.{FitsColumns, IsCoveredColumn, StaysCovered}
-use Rattle.level_sharing.specs.Candidates.{HasGathered, IsCovered, IsDecided}
+use Rattle.level_sharing.specs.Candidates.{HasGathered, IsCovered, IsDecided, Remembers}
 use Rattle.level_sharing.specs.Progress.{CanClaim, HasSettled, IsThroughColumn, KnowsHolder, KnowsLeaf}
 use Rattle.level_sharing.specs.Shares.{by_columns}
 use Rattle.level_sharing.specs.declared.candidate.Candidate.{Candidate}
@@ -28,16 +28,25 @@ gathered_more s b columns w xs x can on_board g = record {
 
 -- What is covered.
 
+pub stays_on : (u : WorkerState) (xs : List Candidate) (v : WorkerState) (ys : List Candidate) (w : WorkerState) (zs : List Candidate) → StaysCovered u xs v ys → StaysCovered v ys w zs → StaysCovered u xs w zs
+stays_on u xs v ys w zs p q = record { leaf = λ root k. q.leaf root (p.leaf root k); covered = λ row root k. q.covered row root (p.covered row root k) }
+
+pub stays_known : (s : State) (v w : WorkerState) (xs : List Candidate) → Remembers s v w → StaysCovered v xs w xs
+stays_known s v w xs r = record { leaf = r.leaf; covered = r.covered xs }
+
 pub stays_more : (w : WorkerState) (xs : List Candidate) (x : Candidate) → StaysCovered w xs w (xs ++ x ∷ [])
-stays_more w xs x r root (inl d) = inl d
-stays_more w xs x r root (inr (y, m, e, f)) = inr (y, among_left y xs (x ∷ []) m, e, f)
+stays_more w xs x = record { leaf = λ root k. k; covered = covered }
+  where
+    covered : (row root : ℕ) → IsCovered w xs row root → IsCovered w (xs ++ x ∷ []) row root
+    covered row root (inl d) = inl d
+    covered row root (inr (y, m, e, f)) = inr (y, among_left y xs (x ∷ []) m, e, f)
 
 pub covered_last : (w : WorkerState) (xs : List Candidate) (x : Candidate) → IsCovered w (xs ++ x ∷ []) x.row x.root
 covered_last w xs x = inr (x, among_right x xs (x ∷ []) (inl refl), refl, refl)
 
-pub column_stays : (s : State) (v w : WorkerState) (xs ys : List Candidate) (c : ℕ) → ((x : ℕ) → KnowsLeaf v x → KnowsLeaf w x) → StaysCovered v xs w ys → IsCoveredColumn s v xs c → IsCoveredColumn s w ys c
-column_stays s v w xs ys c leaf stays (x, root, inl k) = (x, root, inl (leaf x k))
-column_stays s v w xs ys c leaf stays (x, root, inr all) = (x, root, inr (λ r m. stays r x (all r m)))
+pub column_stays : (s : State) (v w : WorkerState) (xs ys : List Candidate) (c : ℕ) → StaysCovered v xs w ys → IsCoveredColumn s v xs c → IsCoveredColumn s w ys c
+column_stays s v w xs ys c stays (x, root, inl k) = (x, root, inl (stays.leaf x k))
+column_stays s v w xs ys c stays (x, root, inr all) = (x, root, inr (λ r m. stays.covered r x (all r m)))
 
 -- each row of a list is held or the root has a leaf: the root has a leaf, or all rows are held
 all_or_leaf : (w : WorkerState) (x : ℕ) (rows : List ℕ) → ((r : ℕ) → Among r rows → IsDecided w r x) → KnowsLeaf w x ⊎ ((r : ℕ) → Among r rows → KnowsHolder w r)

@@ -7,7 +7,7 @@ use Rattle.claim_words.specs.Board.{Board}
 use Rattle.claim_words.specs.WorkerState.{WorkerState}
 use Rattle.frontier_levels.specs.declared.search.TopDownSearch.{TopDownSearch}
 use Rattle.level_sharing.specs.Candidates.{CanTake, HasGathered, IsCovered, IsOnBoard, IsSearch}
-use Rattle.level_sharing.specs.Progress.{KnowsLeaf, Progress}
+use Rattle.level_sharing.specs.Progress.{GoesOn, KnowsLeaf}
 use Rattle.level_sharing.specs.Shares.{by_columns}
 use Rattle.level_sharing.specs.declared.candidate.Candidate.{Candidate}
 
@@ -24,13 +24,15 @@ abbrev pub HasGatheredIn : TopDownSearch → WorkerState → List Candidate → 
 HasGatheredIn t w xs = HasGathered t.forest.now t.board.now
     (FitsColumns t.forest.now t.board.now t.share.now) w xs
 
--- the worker has made progress by its share's columns
+-- the worker has made progress by its share's columns, since whatever state
 abbrev pub Advances : TopDownSearch → WorkerState → WorkerState → Type 0
-Advances t v w = Progress t.forest.now (by_columns t.share.now) v w
+Advances t v w = GoesOn t.forest.now (by_columns t.share.now) v w
 
--- what was covered is so still
-abbrev pub StaysCovered : WorkerState → List Candidate → WorkerState → List Candidate → Type 0
-StaysCovered v xs w ys = (row root : ℕ) → IsCovered v xs row root → IsCovered w ys row root
+-- what was covered is so still, and the worker knows the leaves that it knew
+pub record StaysCovered (v : WorkerState) (xs : List Candidate) (w : WorkerState)
+    (ys : List Candidate) : Type 0 where
+  pub leaf : (root : ℕ) → KnowsLeaf v root → KnowsLeaf w root
+  pub covered : (row root : ℕ) → IsCovered v xs row root → IsCovered w ys row root
 
 -- the column's root has a leaf, as the worker knows, or each of the column's rows is covered
 abbrev pub IsCoveredColumn : State → WorkerState → List Candidate → ℕ → Type 0

@@ -7,7 +7,7 @@ ghost use Rattle.forest_core.specs.Tables.{IsTableOf};
 ghost use Rattle.level_sharing.specs.Agreement.{Agree};
 ghost use Rattle.sp_ids.specs.Limits.{max_workers};
 
-use claim_words::{ClaimBoard, ClaimSeat, Worker, new_seats_are_all};
+use claim_words::{ClaimBoard, ClaimSeat, Worker};
 use forest_core::Forest;
 use level_sharing::{are_worth_threads, new_workers_agree};
 use sp_ids::{Col, OutOfMemory, Row};
@@ -33,7 +33,6 @@ pub fn open<R: Threads + Sync>(
     ensures rows { IfOk result (λ o. length o.0.rows ≡ forest.now.matrix.rows) }
     ensures roots { IfOk result (λ o. length o.0.roots ≡ cols forest.now.matrix) }
 {
-    new_seats_are_all();
     new_workers_agree();
     let (by_row, by_root) = lists(rt, alloc, forest, workers, worth_threads);
     let holders = by_row?;

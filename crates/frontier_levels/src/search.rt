@@ -11,9 +11,7 @@ ghost use Rattle.level_sharing.specs.Progress.{HasSettled, IsThroughColumns};
 use arrayvec::ArrayVec;
 use claim_words::{ClaimBoard, Worker};
 use forest_core::Forest;
-use level_sharing::{
-    Candidate, claim_all, finds_holder, finds_leaf, steps_are_progress, steps_are_remembered,
-};
+use level_sharing::{Candidate, claim_all, finds_holder, finds_leaf};
 use sp_ids::{Col, OutOfMemory, Row};
 
 /// A worker's search through its share of the frontier. It gathers the rows that it may claim, with
@@ -35,8 +33,6 @@ impl<'a, 'p> TopDownSearch<'a, 'p> {
         ensures through { OnOk result
             (IsThroughColumns self.now.forest.now self.now.share.now worker.new) }
     {
-        steps_are_progress();
-        steps_are_remembered();
         let mut candidates = ArrayVec::new();
         for col in self.share {
             self.gather(*col, worker, &mut candidates)?;
@@ -61,8 +57,6 @@ impl<'a, 'p> TopDownSearch<'a, 'p> {
         ensures column { OnOk result
             (IsCoveredColumn self.now.forest.now worker.new candidates.new.items col) }
     {
-        steps_are_progress();
-        steps_are_remembered();
         let root = self.forest.root(col);
         if finds_leaf(self.board, worker, root) {
             return Ok(());
@@ -89,7 +83,6 @@ impl<'a, 'p> TopDownSearch<'a, 'p> {
         ensures rows { OnOk result ((r : ℕ) → Among r (column self.now.forest.now.matrix col)
             → IsCovered worker.new candidates.new.items r root) }
     {
-        steps_are_progress();
         for row in self.forest.pattern().rows_of(col) {
             self.gather_row(*row, col, root, worker, candidates)?;
         }
@@ -116,8 +109,6 @@ impl<'a, 'p> TopDownSearch<'a, 'p> {
             (StaysCovered worker.old candidates.old.items worker.new candidates.new.items) }
         ensures row { OnOk result (IsCovered worker.new candidates.new.items row root) }
     {
-        steps_are_progress();
-        steps_are_remembered();
         if finds_holder(self.board, worker, row) {
             return Ok(());
         }
@@ -145,7 +136,6 @@ impl<'a, 'p> TopDownSearch<'a, 'p> {
             (StaysCovered worker.old candidates.old.items worker.new candidates.new.items) }
         ensures room { OnOk result (array_vec_len candidates.new < 512) }
     {
-        steps_are_progress();
         if candidates.is_full() {
             claim_all(self.board, worker, candidates.as_slice())?;
             candidates.clear();

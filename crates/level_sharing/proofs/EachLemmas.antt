@@ -1,5 +1,5 @@
 -- What holds of each element of two lists, one after the other.
-use Rattle.std.proofs.Common.{◌≡◌, ℕ, suc, ◌+◌, List, [], ◌∷◌, ◌++◌, length, sym, subst, arith, length-append, Result, Ok, Err, OnOk}
+use Rattle.std.proofs.Common.{◌≡◌, ℕ, suc, ◌+◌, List, [], ◌∷◌, ◌++◌, length, sym, ap, subst, arith, length-append, Result, Ok, Err, OnOk}
 use Rattle.level_sharing.specs.Each.{AreReady, EachFrom, EachPairFrom, HaveWorked}
 
 behind : (n k : ℕ) → suc n + k ≡ n + suc k
@@ -19,16 +19,17 @@ each_pair_append P n [] (x' ∷ xs') ys ys' f b = absurd f
 each_pair_append P n (x ∷ xs) [] ys ys' f b = absurd f
 each_pair_append P n (x ∷ xs) (x' ∷ xs') ys ys' (p, f) b = (p, each_pair_append P (suc n) xs xs' ys ys' f (subst (λ k. EachPairFrom P k ys ys') (sym (behind n (length xs))) b))
 
-pub ready_prefix : {X : Type 0} (P : ℕ → X → Type 0) (n : ℕ) (xs ys : List X) → AreReady P n (xs ++ ys) → AreReady P n xs
-ready_prefix P n xs ys h = record {
-  few = let few = h.few in let l = length-append xs ys in omega (arith, few, l);
-  each = each_front P n xs ys h.each;
+-- both halves are ready where the whole is
+pub ready_front : {X : Type 0} (P : ℕ → X → Type 0) (n : ℕ) (xs ys whole : List X) → whole ≡ xs ++ ys → AreReady P n whole → AreReady P n xs
+ready_front P n xs ys whole w h = record {
+  few = let few = h.few in let l = length-append xs ys in let all = ap length w in omega (arith, few, l, all);
+  each = each_front P n xs ys (subst (EachFrom P n) w h.each);
 }
 
-pub ready_suffix : {X : Type 0} (P : ℕ → X → Type 0) (n m : ℕ) (xs ys : List X) → m ≡ n + length xs → AreReady P n (xs ++ ys) → AreReady P m ys
-ready_suffix P n m xs ys e h = record {
-  few = let few = h.few in let l = length-append xs ys in omega (arith, few, l, e);
-  each = subst (λ k. EachFrom P k ys) (sym e) (each_back P n xs ys h.each);
+pub ready_back : {X : Type 0} (P : ℕ → X → Type 0) (n m : ℕ) (xs ys whole : List X) → whole ≡ xs ++ ys → m ≡ n + length xs → AreReady P n whole → AreReady P m ys
+ready_back P n m xs ys whole w e h = record {
+  few = let few = h.few in let l = length-append xs ys in let all = ap length w in omega (arith, few, l, e, all);
+  each = subst (λ k. EachFrom P k ys) (sym e) (each_back P n xs ys (subst (EachFrom P n) w h.each));
 }
 
 -- the pairs of a whole, from those of both halves

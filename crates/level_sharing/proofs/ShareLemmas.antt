@@ -32,7 +32,7 @@ shares_cover_list xs workers x some m =
     let (i, few, from, to) = between (λ i. i * length xs / workers) k workers (omega (arith, none)) (subst (λ n. k < n) (sym whole) inside) in
     (i, few, subst (λ y. Among y (share_of xs workers i)) at (among_range xs _ _ k x from to inside))
 
-among_drop : {X : Type 0} (n : ℕ) (x : X) (xs : List X) → Among x (drop n xs) → Among x xs
+pub among_drop : {X : Type 0} (n : ℕ) (x : X) (xs : List X) → Among x (drop n xs) → Among x xs
 among_drop n x xs m = subst (λ ys. Among x ys) (take-append-drop n xs) (among_right x (take n xs) (drop n xs) m)
 
 pub share_within : {X : Type 0} (xs : List X) (workers i : ℕ) (x : X) → Among x (share_of xs workers i) → Among x xs

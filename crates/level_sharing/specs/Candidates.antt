@@ -6,7 +6,7 @@ use Rattle.bip_defs.specs.Matrix.{cols}
 use Rattle.claim_words.specs.Board.{Board}
 use Rattle.claim_words.specs.WorkerState.{WorkerState}
 use Rattle.level_sharing.specs.Agreement.{IsSized}
-use Rattle.level_sharing.specs.Progress.{CanClaim, HasSettled, KnowsHolder, KnowsLeaf, KnowsWon}
+use Rattle.level_sharing.specs.Progress.{CanClaim, GoesOn, HasSettled, IsThroughRow, KnowsHolder, KnowsLeaf, KnowsWon, Progress}
 use Rattle.level_sharing.specs.Shares.{Share}
 use Rattle.level_sharing.specs.declared.candidate.Candidate.{Candidate}
 
@@ -35,13 +35,22 @@ abbrev pub IsCovered : WorkerState → List Candidate → ℕ → ℕ → Type 0
 IsCovered w xs row root = IsDecided w row root
     ⊎ ((x : Candidate) × Among x xs × (x.row ≡ row) × (x.root ≡ root))
 
--- from one state of a worker to a later one: what it knew it knows still
+-- from one state of a worker to a later one: what it knew it knows still, and it is through with the
+-- rows that it was through with
 pub record Remembers (s : State) (v w : WorkerState) : Type 0 where
   pub holder : (r : ℕ) → KnowsHolder v r → KnowsHolder w r
   pub leaf : (x : ℕ) → KnowsLeaf v x → KnowsLeaf w x
   pub won : (c : ℕ) → KnowsWon s v c → KnowsWon s w c
+  pub through_row : (r : ℕ) → IsThroughRow s v r → IsThroughRow s w r
   pub decided : (r x : ℕ) → IsDecided v r x → IsDecided w r x
   pub covered : (xs : List Candidate) (r x : ℕ) → IsCovered v xs r x → IsCovered w xs r x
+
+-- the worker has made progress since a state, and since each earlier one from which there was
+-- progress to it, and it remembers what it knew
+pub record HasAdvanced (s : State) (own : Share) (v w : WorkerState) : Type 0 where
+  pub progress : Progress s own v w
+  pub goes_on : GoesOn s own v w
+  pub remembers : Remembers s v w
 
 -- what a worker's search goes over: a board for the forest, and columns or rows that are each so
 pub record IsSearch (s : State) (b : Board) (IsSo : ℕ → Type 0) (share : List ℕ) : Type 0 where

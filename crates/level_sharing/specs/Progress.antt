@@ -25,6 +25,10 @@ pub record Progress (s : State) (own : Share) (v w : WorkerState) : Type 0 where
   pub entries : (r c : ℕ) → Among (r, c) more.claims → IsEntry s.matrix r c × InForest s c
   pub leaves : (x r : ℕ) → Among (x, r) more.wins → IsLeafFor s w x r
 
+-- progress from an earlier state to the one is progress from it to the other too
+abbrev pub GoesOn : State → Share → WorkerState → WorkerState → Type 0
+GoesOn s own v w = (u : WorkerState) → Progress s own u v → Progress s own u w
+
 -- a claim of the worker's own share that is legal in the forest
 pub record IsOwnClaim (s : State) (own : Share) (r c : ℕ) : Type 0 where
   pub is_own : IsOwn own (r, c)

@@ -2,14 +2,13 @@
 
 ghost use Rattle.std.specs.Prelude.{◌≡◌, ℕ, OnOk};
 ghost use Rattle.bip_defs.specs.Forest.{State};
-ghost use Rattle.level_sharing.specs.Candidates.{AreCandidates, AreOnBoard, CanTake, IsCovered, IsDecided, IsOnBoard};
-ghost use Rattle.level_sharing.specs.Progress.{HasSettled, Progress};
+ghost use Rattle.level_sharing.specs.Candidates.{AreCandidates, AreOnBoard, CanTake, HasAdvanced, IsCovered, IsDecided, IsOnBoard};
+ghost use Rattle.level_sharing.specs.Progress.{HasSettled};
 ghost use Rattle.level_sharing.specs.Shares.{Share};
 
 use crate::candidate::Candidate;
 use crate::claims::claim_row;
 use crate::looks::finds_leaf;
-use crate::steps::{steps_are_progress, steps_are_remembered};
 use claim_words::{ClaimBoard, Worker};
 use sp_ids::OutOfMemory;
 
@@ -28,7 +27,7 @@ pub fn claim_all(
     requires seat { worker.old.seat.board ≡ board.now }
     requires on_board { AreOnBoard board.now candidates.now }
     ensures progress { (s : State) (own : Share) → AreCandidates s own candidates.now
-        → Progress s own worker.old worker.new }
+        → HasAdvanced s own worker.old worker.new }
     ensures settled { OnOk result ((s : State) (own : Share) → AreCandidates s own candidates.now
         → HasSettled s worker.old → HasSettled s worker.new) }
     ensures seat { worker.new.seat.board ≡ worker.old.seat.board }
@@ -36,8 +35,6 @@ pub fn claim_all(
         → (row root : ℕ) → IsCovered worker.old candidates.now row root
         → IsDecided worker.new row root) }
 {
-    steps_are_progress();
-    steps_are_remembered();
     for candidate in candidates {
         claim_one(board, worker, *candidate)?;
     }
@@ -53,13 +50,12 @@ fn claim_one(
     requires seat { worker.old.seat.board ≡ board.now }
     requires range { IsOnBoard board.now candidate }
     ensures progress { (s : State) (own : Share) → CanTake s own candidate
-        → Progress s own worker.old worker.new }
+        → HasAdvanced s own worker.old worker.new }
     ensures settled { OnOk result ((s : State) (own : Share) → CanTake s own candidate
         → HasSettled s worker.old → HasSettled s worker.new) }
     ensures seat { worker.new.seat.board ≡ worker.old.seat.board }
     ensures decided { OnOk result (IsDecided worker.new candidate.row candidate.root) }
 {
-    steps_are_progress();
     if !finds_leaf(board, worker, candidate.root) {
         claim_row(board, worker, candidate)?;
     }

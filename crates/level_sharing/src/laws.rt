@@ -1,6 +1,6 @@
 //! Laws on boards and workers that agree with a forest, and on shares.
 
-ghost use Rattle.std.specs.Prelude.{ℕ, ◌<◌, ◌≤◌, List, ◌++◌, map};
+ghost use Rattle.std.specs.Prelude.{◌≡◌, ℕ, ◌<◌, ◌≤◌, List, ◌++◌, length, map};
 ghost use Rattle.bip_defs.specs.Lists.{Among};
 ghost use Rattle.claim_words.specs.Board.{Board, Words};
 ghost use Rattle.claim_words.specs.Seat.{new_seats};
@@ -53,11 +53,12 @@ pub fn settled_workers_agree()
 }
 
 /// New workers agree with a forest, each on a new seat of a board that was opened with the claims
-/// and the leaves of the forest.
+/// and the leaves of the forest. They are as many as the seats.
 pub fn new_workers_agree()
-    ensures { (b : Board) (seats : ℕ) (claims leaves : List (ℕ × ℕ)) → 1 ≤ seats
+    ensures agree { (b : Board) (seats : ℕ) (claims leaves : List (ℕ × ℕ)) → 1 ≤ seats
         → HoldThese claims b.rows → HoldThese leaves b.roots
         → Agree b (map seated (new_seats b seats)) claims leaves }
+    ensures many { (b : Board) (seats : ℕ) → length (map seated (new_seats b seats)) ≡ seats }
 {
     new_seats_are_all();
     seats_stay();

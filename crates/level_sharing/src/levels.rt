@@ -1,79 +1,62 @@
-//! Laws on whole levels.
+//! Whole levels.
 
-ghost use Rattle.std.specs.Prelude.{◌≡◌, ◌⊎◌, ℕ, List, ◌++◌, length};
-ghost use Rattle.bip_defs.specs.Forest.{HasWon, InForest, IsRootOfRow, IsSettled, IsUsedUp};
-ghost use Rattle.bip_defs.specs.Lists.{Among, AreNew};
-ghost use Rattle.bip_defs.specs.Matching.{cols_of, rows_of};
-ghost use Rattle.bip_defs.specs.Matrix.{IsEntry};
-ghost use Rattle.claim_words.specs.WorkerState.{fresh_claims_of, fresh_wins_of};
-ghost use Rattle.level_sharing.specs.Agreement.{Shows};
-ghost use Rattle.level_sharing.specs.Level.{AreThroughColumns, AreThroughRows, Level, WordsTell, forest_after};
-ghost use Rattle.level_sharing.specs.Shares.{KeepToShares};
+ghost use Rattle.std.specs.Prelude.{ℕ, List, OnOk, length};
+ghost use Rattle.bip_defs.specs.Forest.{State};
+ghost use Rattle.claim_words.specs.Board.{Board};
+ghost use Rattle.claim_words.specs.WorkerState.{AreAllWorkers, WorkerState};
+ghost use Rattle.level_sharing.specs.Level.{HaveProgressed, Level, WordsTell};
+ghost use Rattle.level_sharing.specs.LevelWork.{GoesThrough, IsLevel, LeavesLevel};
+ghost use Rattle.level_sharing.specs.Shares.{Share};
 
 use crate::laws::fresh_lists_are_new;
-use claim_words::{fresh_lists_join, known_values_stand, workers_grow};
+use crate::work::{Sharing, Work, share_work};
+use claim_words::{
+    ClaimBoard, Worker, fresh_lists_join, known_values_stand, workers_are_few, workers_grow,
+};
+use sp_ids::OutOfMemory;
+use sp_ports::Gate;
+use std::thread::Threads;
 
-/// In a level each worker claims and wins of its own share alone, and the workers stay as many.
-pub fn levels_keep_to_shares()
-    ensures shares { (l : Level) → KeepToShares l.own l.gathered }
-    ensures many { (l : Level) → length l.gathered ≡ length l.before }
+/// Each worker does its part of a level on so many items, as [`share_work`] says, and then the
+/// seats of all workers are gathered.
+///
+/// What holds afterwards is said of each forest with which board and workers agree, and of each
+/// way to share it out in which every worker makes progress with its own share. Returns
+/// `OutOfMemory` if a worker ends early: what is listed then stands. Work: as `share_work`, and
+/// constant for each entry that the seats list.
+pub fn share_level<R: Threads + Sync, G: Gate, W: Work<Worker, OutOfMemory>>(
+    rt: &R,
+    sharing: &Sharing<'_, G>,
+    board: &ClaimBoard,
+    work: &W,
+    items: usize,
+    workers: &mut [Worker],
+) -> Result<(), OutOfMemory>
+    requires level { (s : State) × (own : ℕ → Share)
+        × IsLevel s own board.now (W.can_begin work.now) (W.leaves work.now) workers.old }
+    ensures always { (s : State) (own : ℕ → Share)
+        → IsLevel s own board.now (W.can_begin work.now) (W.leaves work.now) workers.old
+        → LeavesLevel s own board.now workers.old workers.new }
+    ensures ok { OnOk result ((s : State) (own : ℕ → Share)
+        → IsLevel s own board.now (W.can_begin work.now) (W.leaves work.now) workers.old
+        → GoesThrough s (W.completes work.now) (length workers.old) workers.new) }
 {
-    workers_grow();
+    workers_are_few(workers);
+    words_tell_of_levels();
+    let result = share_work(rt, sharing, work, items, workers);
+    board.gather(workers);
+    result
 }
 
-// What the words tell of a level.
+// What the words tell of a level. Workers that have made progress have all seats of the board
+// still, in the order of their numbers.
 fn words_tell_of_levels()
-    ensures { (l : Level) → WordsTell l }
+    ensures words { (l : Level) → WordsTell l }
+    ensures seats { (s : State) (own : ℕ → Share) (b : Board) (before after : List WorkerState)
+        → HaveProgressed s own before after → AreAllWorkers b before → AreAllWorkers b after }
 {
     fresh_lists_join();
     workers_grow();
     fresh_lists_are_new();
     known_values_stand();
-}
-
-/// A level is legal: its fresh claims are of new rows, at places of the matrix and by columns that
-/// are in the forest, and its fresh wins are of new roots, each with a row of its tree as leaf that
-/// has no base mate.
-pub fn levels_are_legal()
-    ensures claims { (l : Level) → AreNew l.forest.claims (fresh_claims_of l.gathered) }
-    ensures places { (l : Level) (r c : ℕ) → Among (r, c) (fresh_claims_of l.gathered)
-        → IsEntry l.forest.matrix r c × InForest l.forest c }
-    ensures wins { (l : Level) → AreNew l.forest.leaves (fresh_wins_of l.gathered) }
-    ensures leaves { (l : Level) (x r : ℕ) → Among (x, r) (fresh_wins_of l.gathered)
-        → (¬ Among x (cols_of l.forest.base)) × (¬ Among r (rows_of l.forest.base))
-        × IsRootOfRow l.forest.base (l.forest.claims ++ fresh_claims_of l.gathered) x r }
-{
-    words_tell_of_levels();
-}
-
-/// After a level board and workers show the forest that the level leaves.
-pub fn levels_are_shown()
-    ensures { (l : Level)
-        → Shows l.board l.gathered (forest_after l).claims (forest_after l).leaves }
-{
-    words_tell_of_levels();
-}
-
-/// A level of which each worker is through with its share of these columns leaves a settled forest
-/// settled, and each of the columns has a root with a leaf, or all its rows are claimed.
-pub fn levels_go_through_columns()
-    ensures settled { (l : Level) (cols : List ℕ) → AreThroughColumns l cols
-        → IsSettled l.forest → IsSettled (forest_after l) }
-    ensures columns { (l : Level) (cols : List ℕ) (c : ℕ) → AreThroughColumns l cols → Among c cols
-        → HasWon (forest_after l) c ⊎ IsUsedUp (forest_after l) c }
-{
-    words_tell_of_levels();
-}
-
-/// A level of which each worker is through with its share of these rows leaves a settled forest
-/// settled, and each of the rows is claimed, or the root of each column with an entry in it that
-/// was in the forest has a leaf.
-pub fn levels_go_through_rows()
-    ensures settled { (l : Level) (rows : List ℕ) → AreThroughRows l rows
-        → IsSettled l.forest → IsSettled (forest_after l) }
-    ensures rows { (l : Level) (rows : List ℕ) (r c : ℕ) → AreThroughRows l rows → Among r rows
-        → IsEntry l.forest.matrix r c → InForest l.forest c
-        → Among r (rows_of (forest_after l).claims) ⊎ HasWon (forest_after l) c }
-{
-    words_tell_of_levels();
 }

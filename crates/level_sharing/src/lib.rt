@@ -14,7 +14,6 @@ mod laws;
 mod levels;
 mod looks;
 mod shares;
-mod steps;
 mod work;
 
 pub use candidate::Candidate;
@@ -24,16 +23,9 @@ pub use laws::{
     fresh_lists_are_added, fresh_lists_are_new, new_workers_agree, settled_workers_agree,
     shares_cover_a_list,
 };
-pub use levels::{
-    levels_are_legal, levels_are_shown, levels_go_through_columns, levels_go_through_rows,
-    levels_keep_to_shares,
-};
+pub use levels::share_level;
 pub use looks::{finds_holder, finds_leaf};
 pub use shares::{share, share_start};
-pub use steps::{
-    progress_keeps_seats, steps_are_progress, steps_are_remembered, steps_settle,
-    workers_are_at_the_start, workers_stay_through,
-};
 pub use work::{
     Sharing, WORTH_THREADS, Work, are_worth_threads, processors, share_work, work_at_once,
 };

@@ -2,10 +2,10 @@
 
 ghost use Rattle.std.specs.Prelude.{◌≡◌, ◌<◌, length, IsTrue};
 ghost use Rattle.bip_defs.specs.Forest.{State};
-ghost use Rattle.level_sharing.specs.Progress.{HasSettled, KnowsHolder, KnowsLeaf, Progress};
+ghost use Rattle.level_sharing.specs.Candidates.{HasAdvanced};
+ghost use Rattle.level_sharing.specs.Progress.{HasSettled, KnowsHolder, KnowsLeaf};
 ghost use Rattle.level_sharing.specs.Shares.{Share};
 
-use crate::steps::{steps_are_progress, steps_are_remembered, steps_settle};
 use claim_words::{ClaimBoard, Worker};
 use sp_ids::{Col, Row};
 
@@ -13,14 +13,11 @@ use sp_ids::{Col, Row};
 pub fn finds_holder(board: &ClaimBoard, worker: &mut Worker, row: Row) -> bool
     requires seat { worker.old.seat.board ≡ board.now }
     requires row { row < length board.now.rows }
-    ensures progress { (s : State) (own : Share) → Progress s own worker.old worker.new }
+    ensures progress { (s : State) (own : Share) → HasAdvanced s own worker.old worker.new }
     ensures settled { (s : State) → HasSettled s worker.old → HasSettled s worker.new }
     ensures seat { worker.new.seat.board ≡ worker.old.seat.board }
     ensures holder { IsTrue result → KnowsHolder worker.new row }
 {
-    steps_are_progress();
-    steps_are_remembered();
-    steps_settle();
     worker.look_row(board, row).is_some()
 }
 
@@ -28,13 +25,10 @@ pub fn finds_holder(board: &ClaimBoard, worker: &mut Worker, row: Row) -> bool
 pub fn finds_leaf(board: &ClaimBoard, worker: &mut Worker, root: Col) -> bool
     requires seat { worker.old.seat.board ≡ board.now }
     requires root { root < length board.now.roots }
-    ensures progress { (s : State) (own : Share) → Progress s own worker.old worker.new }
+    ensures progress { (s : State) (own : Share) → HasAdvanced s own worker.old worker.new }
     ensures settled { (s : State) → HasSettled s worker.old → HasSettled s worker.new }
     ensures seat { worker.new.seat.board ≡ worker.old.seat.board }
     ensures leaf { IsTrue result → KnowsLeaf worker.new root }
 {
-    steps_are_progress();
-    steps_are_remembered();
-    steps_settle();
     worker.look_root(board, root).is_some()
 }

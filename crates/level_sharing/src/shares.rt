@@ -1,6 +1,7 @@
 //! Each worker's share of a list.
 
 ghost use Rattle.std.specs.Prelude.{◌≡◌, ◌*◌, ◌/◌, ◌<◌, ◌≤◌};
+ghost use Rattle.bip_defs.specs.Lists.{Among};
 ghost use Rattle.level_sharing.specs.Shares.{share_of};
 
 /// The share of a worker, of so many, in a list: its places from `number * l / workers` up to
@@ -8,7 +9,8 @@ ghost use Rattle.level_sharing.specs.Shares.{share_of};
 /// other, and one may be empty.
 pub fn share<T>(list: &[T], workers: usize, number: usize) -> &[T]
     requires { number < workers }
-    ensures { result.now ≡ share_of list.now workers number }
+    ensures share { result.now ≡ share_of list.now workers number }
+    ensures within { (x : T) → Among x result.now → Among x list.now }
 {
     let len = list.len();
     &list[share_start(len, workers, number)..share_start(len, workers, number + 1)]

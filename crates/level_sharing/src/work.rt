@@ -26,8 +26,8 @@ pub trait Work<T, E>: Sync {
         ensures ok { OnOk result (completes self.now number worker.old worker.new) };
 }
 
-/// So many items are worth more threads than one, unless it is told otherwise: fewer are done by one
-/// thread in some milliseconds, which is what the start of others costs on a busy machine.
+/// The number of items from which on more threads than one are worth their start, by default: one
+/// thread does fewer in some milliseconds, and the start of others costs as much on a busy machine.
 pub const WORTH_THREADS: u32 = 500_000;
 
 /// How workers share their work: the gate at which each of them arrives, and how many items are
@@ -48,19 +48,19 @@ impl<'g, G> Sharing<'g, G> {
     }
 }
 
-/// Whether work on so many items is worth more threads than one: where it is on `worth_threads` of
-/// them at least, and the program may use two processors.
+/// Whether work on so many items is worth more threads than one: if there are at least
+/// `worth_threads` of them, and the program may use two processors.
 pub fn are_worth_threads<R: Threads>(rt: &R, items: usize, worth_threads: u32) -> bool
     ensures many { IsTrue result → worth_threads ≤ items }
 {
     items >= worth_threads as usize && processors(rt) > 1
 }
 
-/// Each worker does its part of work on so many items: at once with the others where these are worth
-/// threads, or where the gate needs threads, and else one after the other, the highest number first.
+/// Each worker does its part of work on so many items: at once with the others if these are worth
+/// threads, or if the gate needs threads, and else one after the other, the highest number first.
 ///
 /// What holds afterwards is the same either way. Each worker calls `gate.arrive` with its number
-/// once, before its part. Answers the fault of the first worker that ended early; all the others
+/// once, before its part. Returns the fault of the first worker that ended early; all the others
 /// did their parts nonetheless. Work: as `work_at_once`, or no thread is started.
 pub fn share_work<R: Threads + Sync, G: Gate, T: Send, E: Send + Drop, W: Work<T, E>>(
     rt: &R,
@@ -82,14 +82,14 @@ pub fn share_work<R: Threads + Sync, G: Gate, T: Send, E: Send + Drop, W: Work<T
     }
 }
 
-/// Each worker does its part, at once with the others as far as threads can be had.
+/// Each worker does its part, at once with the others if threads can be started.
 ///
 /// The workers are numbered from 0 in the order of the slice. Each calls `gate.arrive` with its
 /// number once, before its part. No more threads work at once than there are processors that the
 /// program may use, unless the gate needs threads; each does the parts of workers that follow each
-/// other then, the highest number first. Want of a thread changes nothing. Answers the fault of the
-/// first worker that ended early; all the others did their parts nonetheless. Work: one thread at
-/// most is started for each worker but the first.
+/// other then, the highest number first. If a thread cannot be started, the result is the same.
+/// Returns the fault of the first worker that ended early; all the others did their parts
+/// nonetheless. Work: one thread at most is started for each worker but the first.
 pub fn work_at_once<R: Threads + Sync, G: Gate, T: Send, E: Send + Drop, W: Work<T, E>>(
     rt: &R,
     gate: &G,
@@ -109,8 +109,8 @@ pub fn work_at_once<R: Threads + Sync, G: Gate, T: Send, E: Send + Drop, W: Work
     work_from(rt, gate, work, 0, threads, workers)
 }
 
-/// How many processors the program may use, or 1 where that cannot be told. It is asked of the
-/// system each time, at the cost of some calls.
+/// How many processors the program may use, or 1 if the system does not say. Each call asks the
+/// system again, at the cost of some calls to it.
 pub fn processors<R: Threads>(rt: &R) -> usize
     ensures { 1 ≤ result }
 {
@@ -142,7 +142,6 @@ fn work_from<R: Threads + Sync, G: Gate, T: Send, E: Send + Drop, W: Work<T, E>>
     let half = workers.len() / 2;
     let (prefix, suffix) = workers.split_at_mut(half);
     let next = first + half as u32;
-    halves_are_ready(work, first, next, prefix, suffix);
     let (low, high) = join_mut(
         rt,
         &mut || -> Result<(), E>
@@ -202,19 +201,3 @@ fn do_part<G: Gate, T, E, W: Work<T, E>>(
     gate.arrive(number);
     work.run(number, worker)
 }
-
-// The workers of both halves are ready, where those of the whole are.
-fn halves_are_ready<T, E, W: Work<T, E>>(
-    work: &W,
-    first: u32,
-    next: u32,
-    prefix: &[T],
-    suffix: &[T],
-)
-    requires whole { AreReady (W.can_begin work.now) first (prefix.now ++ suffix.now) }
-    requires next { next ≡ first + length prefix.now }
-    requires some { (0 < length prefix.now) × (0 < length suffix.now) }
-    ensures prefix { AreReady (W.can_begin work.now) first prefix.now }
-    ensures suffix { AreReady (W.can_begin work.now) next suffix.now }
-    ensures some { (0 < length prefix.now) × (0 < length suffix.now) }
-{}

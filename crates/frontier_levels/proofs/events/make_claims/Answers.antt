@@ -7,5 +7,5 @@ use Rattle.frontier_levels.proofs.events.make_claims.Goals as goal
 
 pub make_claims_of-requires : goal.make_claims_of-requires
 make_claims_of-requires c =
-    let next = next_runs c.runs_join.ensures.split claim_event with_claims no_claims more_claims by_claim (λ (w : WorkerState). w.fresh_claims) _ _ c.args.workers.now c.loop-worker.worker-index c.worker-item.result _ c.requires c.loop-worker-test.true c.worker-item.is in
+    let next = next_runs claim_event with_claims no_claims more_claims by_claim (λ (w : WorkerState). w.fresh_claims) _ _ c.args.workers.now c.loop-worker.worker-index c.worker-item.result _ c.requires c.loop-worker-test.true c.worker-item.is in
     subst₂ (λ (s : State) (ps : List (ℕ × ℕ)). Runs s (map claim_event ps) (with_claims s ps)) (sym c.loop-worker.invariant) (sym c.fresh_claims.ensures) next

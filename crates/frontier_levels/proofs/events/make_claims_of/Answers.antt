@@ -6,5 +6,5 @@ use Rattle.frontier_levels.proofs.events.make_claims_of.Goals as goal
 
 pub claim-requires : goal.claim-requires
 claim-requires c =
-    let next = next_legal c.runs_join.ensures.split claim_event with_claims no_claims more_claims by_claim _ _ c.args.claims.now c.loop-claim.claim-index c.claim-item.result _ c.requires c.loop-claim-test.true c.claim-item.is in
+    let next = next_legal claim_event with_claims no_claims more_claims by_claim _ _ c.args.claims.now c.loop-claim.claim-index c.claim-item.result _ c.requires c.loop-claim-test.true c.claim-item.is in
     subst (λ (s : State). IsLegal s (claim_event c.claim-item.result)) (sym c.loop-claim.invariant) next

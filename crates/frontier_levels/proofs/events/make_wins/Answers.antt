@@ -7,5 +7,5 @@ use Rattle.frontier_levels.proofs.events.make_wins.Goals as goal
 
 pub make_wins_of-requires : goal.make_wins_of-requires
 make_wins_of-requires c =
-    let next = next_runs c.runs_join.ensures.split win_event with_leaves no_leaves more_leaves by_win (λ (w : WorkerState). w.fresh_wins) _ _ c.args.workers.now c.loop-worker.worker-index c.worker-item.result _ c.requires c.loop-worker-test.true c.worker-item.is in
+    let next = next_runs win_event with_leaves no_leaves more_leaves by_win (λ (w : WorkerState). w.fresh_wins) _ _ c.args.workers.now c.loop-worker.worker-index c.worker-item.result _ c.requires c.loop-worker-test.true c.worker-item.is in
     subst₂ (λ (s : State) (ps : List (ℕ × ℕ)). Runs s (map win_event ps) (with_leaves s ps)) (sym c.loop-worker.invariant) (sym c.fresh_wins.ensures) next

@@ -6,5 +6,5 @@ use Rattle.frontier_levels.proofs.events.make_wins_of.Goals as goal
 
 pub win-requires : goal.win-requires
 win-requires c =
-    let next = next_legal c.runs_join.ensures.split win_event with_leaves no_leaves more_leaves by_win _ _ c.args.wins.now c.loop-win.win-index c.win-item.result _ c.requires c.loop-win-test.true c.win-item.is in
+    let next = next_legal win_event with_leaves no_leaves more_leaves by_win _ _ c.args.wins.now c.loop-win.win-index c.win-item.result _ c.requires c.loop-win-test.true c.win-item.is in
     subst (λ (s : State). IsLegal s (win_event c.win-item.result)) (sym c.loop-win.invariant) next

@@ -1,10 +1,12 @@
-use Rattle.std.proofs.Common.{◌≡◌, ◌⊎◌, ℕ, List, Option, Some, inl, inr, sym, subst}
+use Rattle.std.proofs.Common.{◌≡◌, ◌∙◌, ◌⊎◌, ℕ, List, Option, Some, inl, inr, sym, subst}
+use Rattle.std.proofs.lemmas.List.{length-map}
 use Rattle.bip_defs.specs.Lists.{Among}
 use Rattle.bip_defs.specs.WordValues.{held}
 use Rattle.claim_words.specs.Accounts.{Accounts}
 use Rattle.claim_words.specs.Board.{opened_words}
 use Rattle.claim_words.specs.Seat.{AreAllSeats, new_seats}
 use Rattle.claim_words.specs.Settles.{SettlesAll}
+use Rattle.claim_words.specs.WorkerState.{seated}
 use Rattle.level_sharing.specs.Agreement.{AreListedWords, HoldThese}
 use Rattle.level_sharing.proofs.laws.new_workers_agree.Goals as goal
 
@@ -16,8 +18,11 @@ opened_listed opened pairs listed a holds i x = (to, λ h. inl ((holds i x).1 h)
     to (inl e) = (holds i x).0 e
     to (inr m) = (holds i x).0 (a.stands i x m)
 
-pub returns : goal.returns
-returns c = λ b seats claims leaves some rows roots.
+pub returns-clause-many : goal.returns-clause-many
+returns-clause-many c = λ b seats. length-map (new_seats b seats) seated ∙ c.new_seats_are_all.ensures.many b seats
+
+pub returns-clause-agree : goal.returns-clause-agree
+returns-clause-agree c = λ b seats claims leaves some rows roots.
     let same = sym (c.seats_stay.ensures.seated (new_seats b seats)) in
     let words = subst (SettlesAll b (opened_words b)) same (c.new_seats_are_all.ensures.words b seats) in
     record {

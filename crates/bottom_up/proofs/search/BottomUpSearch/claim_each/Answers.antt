@@ -6,7 +6,6 @@ use Rattle.level_sharing.specs.Progress.{IsThroughRow}
 use Rattle.level_sharing.specs.Shares.{of_rows}
 use Rattle.level_sharing.specs.declared.candidate.Candidate.{Candidate}
 use Rattle.bottom_up.proofs.CandidateLemmas.{covered_through}
-use Rattle.bottom_up.proofs.SearchLemmas.{same_board}
 use Rattle.bottom_up.proofs.search.BottomUpSearch.claim_each.Goals as goal
 
 pub claim-requires-clause-candidate : goal.claim-requires-clause-candidate
@@ -15,26 +14,23 @@ claim-requires-clause-candidate c = (c.requires.gathered.each c.candidate-item.r
 pub returns-in_err-claim-clause-progress : goal.returns-in_err-claim-clause-progress
 returns-in_err-claim-clause-progress c =
     let own = (c.requires.gathered.each c.candidate-item.result (read_among c.candidate-item.result c.args.candidates.now c.loop-candidate.candidate-index c.loop-candidate-test.true c.candidate-item.is)).0 in
-    c.steps_are_progress.ensures.on c.args.self.now.forest.now (of_rows c.args.self.now.free.now) _ _ _ c.loop-candidate.invariant.progress (c.claim.ensures.progress (of_rows c.args.self.now.free.now) (λ d. own))
+    λ u p. c.claim.ensures.progress (of_rows c.args.self.now.free.now) (λ d. own) u (c.loop-candidate.invariant.progress u p)
 
 pub returns-in_err-claim-clause-seat : goal.returns-in_err-claim-clause-seat
-returns-in_err-claim-clause-seat c =
-    let own = (c.requires.gathered.each c.candidate-item.result (read_among c.candidate-item.result c.args.candidates.now c.loop-candidate.candidate-index c.loop-candidate-test.true c.candidate-item.is)).0 in
-    same_board _ _ _ _ (c.claim.ensures.progress (of_rows c.args.self.now.free.now) (λ d. own)) ∙ c.loop-candidate.invariant.seat
+returns-in_err-claim-clause-seat c = c.claim.ensures.stays.seat ∙ c.loop-candidate.invariant.seat
 
 pub loop-candidate-preserved : goal.loop-candidate-preserved
 loop-candidate-preserved c =
     let own = (c.requires.gathered.each c.candidate-item.result (read_among c.candidate-item.result c.args.candidates.now c.loop-candidate.candidate-index c.loop-candidate-test.true c.candidate-item.is)).0 in
-    let step = c.claim.ensures.progress (of_rows c.args.self.now.free.now) (λ d. own) in
     record {
-      seat = same_board _ _ _ _ step ∙ c.loop-candidate.invariant.seat;
+      seat = c.claim.ensures.stays.seat ∙ c.loop-candidate.invariant.seat;
       settled = c.in_ok-claim.ensures.settled;
-      progress = c.steps_are_progress.ensures.on c.args.self.now.forest.now (of_rows c.args.self.now.free.now) _ _ _ c.loop-candidate.invariant.progress step;
+      rows = λ r t. c.claim.ensures.stays.rows r (c.loop-candidate.invariant.rows r t);
+      progress = λ u p. c.claim.ensures.progress (of_rows c.args.self.now.free.now) (λ d. own) u (c.loop-candidate.invariant.progress u p);
       through = each_more (λ (x : Candidate). IsThroughRow c.args.self.now.forest.now c.claim.new.worker x.row) c.args.candidates.now c.loop-candidate.candidate-index c.candidate-item.result c.loop-candidate-test.true c.candidate-item.is
-          (λ x m. c.workers_stay_through.ensures.row c.args.self.now.forest.now (of_rows c.args.self.now.free.now) _ _ x.row step (c.loop-candidate.invariant.through x m)) c.in_ok-claim.ensures.through;
+          (λ x m. c.claim.ensures.stays.rows x.row (c.loop-candidate.invariant.through x m)) c.in_ok-claim.ensures.through;
     }
 
 pub returns-clause-through : goal.returns-clause-through
-returns-clause-through c = covered_through c.args.self.now.forest.now c.args.worker.now c.loop-candidate.worker c.args.candidates.now
-    (λ r t. c.workers_stay_through.ensures.row c.args.self.now.forest.now (of_rows c.args.self.now.free.now) _ _ r c.loop-candidate.invariant.progress t)
+returns-clause-through c = covered_through c.args.self.now.forest.now c.args.worker.now c.loop-candidate.worker c.args.candidates.now c.loop-candidate.invariant.rows
     (λ x m. c.loop-candidate.invariant.through x (subst (λ (l : List Candidate). Among x l) (sym (take_all c.loop-candidate.candidate-index c.args.candidates.now c.loop-candidate-test.false)) m))

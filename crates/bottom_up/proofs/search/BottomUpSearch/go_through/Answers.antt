@@ -12,13 +12,13 @@ pub gather-requires-clause-row : goal.gather-requires-clause-row
 gather-requires-clause-row c = read_among _ _ _ c.loop-row-test.true c.row-item.is
 
 pub returns-in_err-gather-clause-progress : goal.returns-in_err-gather-clause-progress
-returns-in_err-gather-clause-progress c = c.steps_are_progress.ensures.on _ _ _ _ _ c.loop-row.invariant.progress c.gather.ensures.progress
+returns-in_err-gather-clause-progress c = λ u p. c.gather.ensures.progress u (c.loop-row.invariant.progress u p)
 
 pub loop-row-preserved : goal.loop-row-preserved
 loop-row-preserved c =
     let step = c.in_ok-gather.ensures in
     record {
-      progress = c.steps_are_progress.ensures.on _ _ _ _ _ c.loop-row.invariant.progress step.progress;
+      progress = λ u p. step.progress u (c.loop-row.invariant.progress u p);
       gathered = step.gathered;
       covered = each_more (λ r. IsCoveredRow c.args.self.now.forest.now c.gather.new.worker c.gather.new.candidates.items r) c.args.self.now.free.now c.loop-row.row-index c.row-item.result c.loop-row-test.true c.row-item.is
           (λ r h. step.stays r (c.loop-row.invariant.covered r h)) step.row;
@@ -30,7 +30,7 @@ claim_each-requires c = record {
 }
 
 pub returns-clause-progress : goal.returns-clause-progress
-returns-clause-progress c = c.steps_are_progress.ensures.on _ _ _ _ _ c.loop-row.invariant.progress c.claim_each.ensures.progress
+returns-clause-progress c = λ u p. c.claim_each.ensures.progress u (c.loop-row.invariant.progress u p)
 
 pub returns-clause-through : goal.returns-clause-through
 returns-clause-through c = ok_both c.claim_each.result

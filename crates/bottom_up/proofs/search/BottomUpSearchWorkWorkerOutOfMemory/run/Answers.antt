@@ -1,5 +1,4 @@
-use Rattle.std.proofs.Common.{List, ℕ, rules, subst}
-use Rattle.bip_defs.specs.Lists.{Among}
+use Rattle.std.proofs.Common.{rules}
 use Rattle.bottom_up.specs.BottomUpSearch.{IsRowSearch}
 use Rattle.bottom_up.proofs.search.BottomUpSearchWorkWorkerOutOfMemory.run.Goals as goal
 
@@ -9,6 +8,6 @@ invariant_of-own c =
     record {
       over = record {
         sized = over.sized;
-        each = λ r h. over.each r (c.shares_cover_a_list.ensures.within c.args.self.now.free.now c.args.self.now.workers c.args.number r (subst (λ (rs : List ℕ). Among r rs) c.share.ensures h));
+        each = λ r h. over.each r (c.share.ensures.within r h);
       };
     }

@@ -1,7 +1,7 @@
 use Rattle.std.proofs.Common.{inl}
 use Rattle.std.proofs.lemmas.Result.{on_ok_weaker}
 use Rattle.level_sharing.specs.Shares.{by_columns}
-use Rattle.frontier_levels.proofs.SearchLemmas.{gathered_on}
+use Rattle.frontier_levels.proofs.SearchLemmas.{gathered_on, stays_known, stays_on}
 use Rattle.frontier_levels.proofs.search.TopDownSearch.gather.Goals as goal
 
 pub root-root-requires : goal.root-root-requires
@@ -16,23 +16,19 @@ gather_rows-requires-clause-gathered c = gathered_on _ _ _ _ _ _ c.finds_leaf.en
 pub returns-then-finds_leaf-clause-gathered : goal.returns-then-finds_leaf-clause-gathered
 returns-then-finds_leaf-clause-gathered c = gathered_on _ _ _ _ _ _ c.finds_leaf.ensures.seat (c.finds_leaf.ensures.settled c.args.self.now.forest.now) c.requires.gathered
 
+pub returns-then-finds_leaf-clause-progress : goal.returns-then-finds_leaf-clause-progress
+returns-then-finds_leaf-clause-progress c = (c.finds_leaf.ensures.progress c.args.self.now.forest.now (by_columns c.args.self.now.share.now)).goes_on
+
 pub returns-then-finds_leaf-clause-stays : goal.returns-then-finds_leaf-clause-stays
-returns-then-finds_leaf-clause-stays c =
-    let s = c.args.self.now.forest.now in
-    let own = by_columns c.args.self.now.share.now in
-    λ row root. (c.steps_are_remembered.ensures.known s own _ _ (c.finds_leaf.ensures.progress s own)).covered _ row root
+returns-then-finds_leaf-clause-stays c = stays_known c.args.self.now.forest.now _ _ c.args.candidates.now.items (c.finds_leaf.ensures.progress c.args.self.now.forest.now (by_columns c.args.self.now.share.now)).remembers
 
 pub returns-then-finds_leaf-clause-column : goal.returns-then-finds_leaf-clause-column
 returns-then-finds_leaf-clause-column c = (c.root-root.result, c.root-root.ensures.root, inl (c.finds_leaf.ensures.leaf c.if-finds_leaf.true))
 
 pub returns-clause-progress : goal.returns-clause-progress
-returns-clause-progress c =
-    let s = c.args.self.now.forest.now in
-    let own = by_columns c.args.self.now.share.now in
-    c.steps_are_progress.ensures.on s own _ _ _ (c.finds_leaf.ensures.progress s own) c.gather_rows.ensures.progress
+returns-clause-progress c u p = c.gather_rows.ensures.progress u ((c.finds_leaf.ensures.progress c.args.self.now.forest.now (by_columns c.args.self.now.share.now)).goes_on u p)
 
 pub returns-clause-stays : goal.returns-clause-stays
 returns-clause-stays c =
-    let s = c.args.self.now.forest.now in
-    let own = by_columns c.args.self.now.share.now in
-    on_ok_weaker c.gather_rows.result (λ stays row root covered. stays row root ((c.steps_are_remembered.ensures.known s own _ _ (c.finds_leaf.ensures.progress s own)).covered _ row root covered)) c.gather_rows.ensures.stays
+    let looked = stays_known c.args.self.now.forest.now _ _ c.args.candidates.now.items (c.finds_leaf.ensures.progress c.args.self.now.forest.now (by_columns c.args.self.now.share.now)).remembers in
+    on_ok_weaker c.gather_rows.result (λ stays. stays_on _ _ _ _ _ _ looked stays) c.gather_rows.ensures.stays

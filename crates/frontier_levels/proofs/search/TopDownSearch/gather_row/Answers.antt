@@ -5,7 +5,7 @@ use Rattle.level_sharing.specs.Candidates.{HasGathered, IsCovered}
 use Rattle.level_sharing.specs.Progress.{CanClaim}
 use Rattle.level_sharing.specs.Shares.{by_columns}
 use Rattle.level_sharing.specs.declared.candidate.Candidate.{Candidate}
-use Rattle.frontier_levels.proofs.SearchLemmas.{covered_last, gathered_more, gathered_on, stays_more}
+use Rattle.frontier_levels.proofs.SearchLemmas.{covered_last, gathered_more, gathered_on, stays_known, stays_more, stays_on}
 use Rattle.frontier_levels.proofs.search.TopDownSearch.gather_row.Goals as goal
 
 pub make_room-requires : goal.make_room-requires
@@ -16,26 +16,20 @@ make_room-requires c = record {
 pub returns-then-finds_holder-clause-gathered : goal.returns-then-finds_holder-clause-gathered
 returns-then-finds_holder-clause-gathered c = gathered_on _ _ _ _ _ _ c.finds_holder.ensures.seat (c.finds_holder.ensures.settled c.args.self.now.forest.now) c.requires.gathered
 
+pub returns-then-finds_holder-clause-progress : goal.returns-then-finds_holder-clause-progress
+returns-then-finds_holder-clause-progress c = (c.finds_holder.ensures.progress c.args.self.now.forest.now (by_columns c.args.self.now.share.now)).goes_on
+
 pub returns-then-finds_holder-clause-stays : goal.returns-then-finds_holder-clause-stays
-returns-then-finds_holder-clause-stays c =
-    let s = c.args.self.now.forest.now in
-    let own = by_columns c.args.self.now.share.now in
-    λ row root. (c.steps_are_remembered.ensures.known s own _ _ (c.finds_holder.ensures.progress s own)).covered _ row root
+returns-then-finds_holder-clause-stays c = stays_known c.args.self.now.forest.now _ _ c.args.candidates.now.items (c.finds_holder.ensures.progress c.args.self.now.forest.now (by_columns c.args.self.now.share.now)).remembers
 
 pub returns-then-finds_holder-clause-row : goal.returns-then-finds_holder-clause-row
 returns-then-finds_holder-clause-row c = inl (inl (c.finds_holder.ensures.holder c.if-finds_holder.true))
 
 pub returns-in_err-make_room-clause-progress : goal.returns-in_err-make_room-clause-progress
-returns-in_err-make_room-clause-progress c =
-    let s = c.args.self.now.forest.now in
-    let own = by_columns c.args.self.now.share.now in
-    c.steps_are_progress.ensures.on s own _ _ _ (c.finds_holder.ensures.progress s own) c.make_room.ensures.progress
+returns-in_err-make_room-clause-progress c u p = c.make_room.ensures.progress u ((c.finds_holder.ensures.progress c.args.self.now.forest.now (by_columns c.args.self.now.share.now)).goes_on u p)
 
 pub returns-clause-progress : goal.returns-clause-progress
-returns-clause-progress c =
-    let s = c.args.self.now.forest.now in
-    let own = by_columns c.args.self.now.share.now in
-    c.steps_are_progress.ensures.on s own _ _ _ (c.finds_holder.ensures.progress s own) c.make_room.ensures.progress
+returns-clause-progress c u p = c.make_room.ensures.progress u ((c.finds_holder.ensures.progress c.args.self.now.forest.now (by_columns c.args.self.now.share.now)).goes_on u p)
 
 pub returns-clause-gathered : goal.returns-clause-gathered
 returns-clause-gathered c =
@@ -56,12 +50,11 @@ returns-clause-gathered c =
 
 pub returns-clause-stays : goal.returns-clause-stays
 returns-clause-stays c =
-    let s = c.args.self.now.forest.now in
-    let own = by_columns c.args.self.now.share.now in
     let w = c.make_room.new.worker in
     let xs = c.make_room.new.candidates.items in
+    let looked = stays_known c.args.self.now.forest.now _ _ c.args.candidates.now.items (c.finds_holder.ensures.progress c.args.self.now.forest.now (by_columns c.args.self.now.share.now)).remembers in
     let more : StaysCovered w xs w c.push.new.self.items = subst (λ (l : List Candidate). StaysCovered w xs w l) (sym c.push.ensures.items) (stays_more w xs (record { row = c.args.row; col = c.args.col; root = c.args.root; free = not c.is_matched-free.result })) in
-    λ row root covered. more row root (c.in_ok-make_room.ensures.stays row root ((c.steps_are_remembered.ensures.known s own _ _ (c.finds_holder.ensures.progress s own)).covered _ row root covered))
+    stays_on _ _ _ _ _ _ (stays_on _ _ _ _ _ _ looked c.in_ok-make_room.ensures.stays) more
 
 pub returns-clause-row : goal.returns-clause-row
 returns-clause-row c =

@@ -4,7 +4,7 @@ use Rattle.bip_defs.specs.Lists.{Among}
 use Rattle.bip_defs.specs.Matrix.{IsEntry, Matrix}
 use Rattle.bip_defs.proofs.Slices.{each_more, read_among}
 use Rattle.level_sharing.specs.Candidates.{IsCovered}
-use Rattle.level_sharing.specs.Shares.{by_columns}
+use Rattle.frontier_levels.proofs.SearchLemmas.{stays_on}
 use Rattle.frontier_levels.proofs.search.TopDownSearch.gather_rows.Goals as goal
 
 pub rows_of-row-items-requires : goal.rows_of-row-items-requires
@@ -19,11 +19,11 @@ pub loop-row-preserved : goal.loop-row-preserved
 loop-row-preserved c =
     let step = c.in_ok-gather_row.ensures in record {
       column_rows = c.loop-row.invariant.column_rows;
-      progress = c.steps_are_progress.ensures.on c.args.self.now.forest.now (by_columns c.args.self.now.share.now) c.args.worker.now c.loop-row.worker c.gather_row.new.worker c.loop-row.invariant.progress step.progress;
+      progress = λ u p. step.progress u (c.loop-row.invariant.progress u p);
       gathered = step.gathered;
-      stays = λ row root covered. step.stays row root (c.loop-row.invariant.stays row root covered);
+      stays = stays_on _ _ _ _ _ _ c.loop-row.invariant.stays step.stays;
       covered = each_more (λ r. IsCovered c.gather_row.new.worker c.gather_row.new.candidates.items r c.args.root) c.rows_of-row-items.result.now c.loop-row.row-index c.row-item.result c.loop-row-test.true c.row-item.is
-          (λ r m. step.stays r c.args.root (c.loop-row.invariant.covered r m)) step.row;
+          (λ r m. step.stays.covered r c.args.root (c.loop-row.invariant.covered r m)) step.row;
     }
 
 pub returns-clause-rows : goal.returns-clause-rows

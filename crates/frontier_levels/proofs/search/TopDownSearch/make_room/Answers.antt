@@ -12,13 +12,13 @@ pub returns-in_err-claim_all-clause-progress : goal.returns-in_err-claim_all-cla
 returns-in_err-claim_all-clause-progress c =
     let s = c.args.self.now.forest.now in
     let own = by_columns c.args.self.now.share.now in
-    c.claim_all.ensures.progress s own (subst (λ (l : List Candidate). AreCandidates s own l) (sym c.as_slice.ensures.value) (λ x m. (c.requires.gathered.each x m).0))
+    (c.claim_all.ensures.progress s own (subst (λ (l : List Candidate). AreCandidates s own l) (sym c.as_slice.ensures.value) (λ x m. (c.requires.gathered.each x m).0))).goes_on
 
 pub returns-in_ok-claim_all-clause-progress : goal.returns-in_ok-claim_all-clause-progress
 returns-in_ok-claim_all-clause-progress c =
     let s = c.args.self.now.forest.now in
     let own = by_columns c.args.self.now.share.now in
-    c.claim_all.ensures.progress s own (subst (λ (l : List Candidate). AreCandidates s own l) (sym c.as_slice.ensures.value) (λ x m. (c.requires.gathered.each x m).0))
+    (c.claim_all.ensures.progress s own (subst (λ (l : List Candidate). AreCandidates s own l) (sym c.as_slice.ensures.value) (λ x m. (c.requires.gathered.each x m).0))).goes_on
 
 pub returns-in_ok-claim_all-clause-gathered : goal.returns-in_ok-claim_all-clause-gathered
 returns-in_ok-claim_all-clause-gathered c =
@@ -34,4 +34,4 @@ returns-in_ok-claim_all-clause-stays c =
     let own = by_columns c.args.self.now.share.now in
     let all = subst (λ (l : List Candidate). AreCandidates s own l) (sym c.as_slice.ensures.value) (λ x m. (c.requires.gathered.each x m).0) in
     subst (λ (l : List Candidate). StaysCovered c.args.worker.now l c.claim_all.new.worker c.clear.new.self.items) c.as_slice.ensures.value
-    (λ row root covered. inl (c.in_ok-claim_all.ensures.decided s own all row root covered))
+    (record { leaf = (c.claim_all.ensures.progress s own all).remembers.leaf; covered = λ row root covered. inl (c.in_ok-claim_all.ensures.decided s own all row root covered) })

@@ -1,0 +1,4 @@
+use Rattle.frontier_levels.proofs.levels.TopDown.new.Goals as goal
+
+pub returns-clause-runs : goal.returns-clause-runs
+returns-clause-runs c = λ claims wins legal. c.new_pairs_run.ensures c.args.forest.now claims wins legal.claims legal.places legal.wins legal.leaves
