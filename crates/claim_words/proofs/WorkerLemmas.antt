@@ -1,18 +1,16 @@
 -- What workers list, step by step.
-use Rattle.std.proofs.Common.{◌≡◌, ◌∙◌, ◌⊎◌, ◌↔◌, ℕ, ◌+◌, List, [], ◌∷◌, ◌++◌, Option, None, Some, flat_map, length, map, refl, sym, ap, subst, inl, inr, ⊎_elim, arith, append_assoc, append-nil}
+use Rattle.std.proofs.Common.{◌≡◌, ◌∙◌, ◌⊎◌, ◌↔◌, ℕ, ◌+◌, List, [], ◌∷◌, ◌++◌, flat_map, length, map, refl, sym, ap, subst, inl, inr, ⊎_elim, arith, append_assoc, append-nil}
 use Rattle.std.proofs.lemmas.Grind.{flat_map-append}
 use Rattle.std.proofs.lemmas.List.{length-map}
 use Rattle.std.proofs.lemmas.List.Folds.{flat_map-map}
-use Rattle.std.proofs.lemmas.Option.{same_Some}
 use Rattle.bip_defs.specs.Lists.{Among}
 use Rattle.bip_defs.specs.Occurrences.{times}
 use Rattle.bip_defs.proofs.Occurrences.{times_append}
 use Rattle.bip_defs.proofs.Sets.{among_either, among_left, among_right}
-use Rattle.claim_words.specs.Accounts.{value_or}
 use Rattle.claim_words.specs.Board.{Board}
-use Rattle.claim_words.specs.Listed.{Listed, Sight, claimed, followed_by, looked, nothing, root_word, row_word, won}
-use Rattle.claim_words.specs.Seat.{AreNumbered, KnowsRoot, KnowsRow, Seat, after_claim, after_look, after_win, lists_of, with_listed}
-use Rattle.claim_words.specs.WorkerState.{AreAllWorkers, HasGrown, HaveGrown, WorkerState, fresh_claims_of, fresh_lists, fresh_wins_of, seated, seats_of, settled, with_more, work_after_claim, work_after_look, work_after_win}
+use Rattle.claim_words.specs.Listed.{Listed, Sight, followed_by, nothing}
+use Rattle.claim_words.specs.Seat.{AreNumbered, Seat, lists_of, with_listed}
+use Rattle.claim_words.specs.WorkerState.{AreAllWorkers, HasGrown, HaveGrown, WorkerState, fresh_claims_of, fresh_lists, fresh_wins_of, seated, seats_of, settled, with_more}
 
 -- Steps.
 
@@ -20,25 +18,11 @@ use Rattle.claim_words.specs.WorkerState.{AreAllWorkers, HasGrown, HaveGrown, Wo
 abbrev listing : WorkerState → List (ℕ × ℕ) → List (ℕ × ℕ) → List Sight → List (ℕ × ℕ) → List (ℕ × ℕ) → WorkerState
 listing w claims wins seen fresh_claims fresh_wins = record { seat = with_listed w.seat (record { claims = claims; wins = wins; seen = seen }); fresh_claims = fresh_claims; fresh_wins = fresh_wins }
 
-no_more : {X : Type 0} (xs : List X) → xs ≡ xs ++ []
-no_more xs = sym (append-nil xs)
-
 pub more_none : (w : WorkerState) → with_more w nothing ≡ w
 more_none w = λ i. listing w (append-nil w.seat.listed.claims i) (append-nil w.seat.listed.wins i) (append-nil w.seat.listed.seen i) (append-nil w.fresh_claims i) (append-nil w.fresh_wins i)
 
 pub more_both : (w : WorkerState) (l m : Listed) → with_more (with_more w l) m ≡ with_more w (followed_by l m)
 more_both w l m = λ i. listing w (append_assoc w.seat.listed.claims l.claims m.claims i) (append_assoc w.seat.listed.wins l.wins m.wins i) (append_assoc w.seat.listed.seen l.seen m.seen i) (append_assoc w.fresh_claims l.claims m.claims i) (append_assoc w.fresh_wins l.wins m.wins i)
-
-pub more_claim : (w : WorkerState) (row col : ℕ) (found : Option ℕ) → work_after_claim w row col found ≡ with_more w (claimed nothing row col found)
-more_claim w row col None = λ i. listing w (w.seat.listed.claims ++ (row, col) ∷ []) (no_more w.seat.listed.wins i) (no_more w.seat.listed.seen i) (w.fresh_claims ++ (row, col) ∷ []) (no_more w.fresh_wins i)
-more_claim w row col (Some x) = λ i. listing w (no_more w.seat.listed.claims i) (no_more w.seat.listed.wins i) (w.seat.listed.seen ++ row_word row (Some x) ∷ []) (no_more w.fresh_claims i) (no_more w.fresh_wins i)
-
-pub more_win : (w : WorkerState) (root leaf : ℕ) (found : Option ℕ) → work_after_win w root leaf found ≡ with_more w (won nothing root leaf found)
-more_win w root leaf None = λ i. listing w (no_more w.seat.listed.claims i) (w.seat.listed.wins ++ (root, leaf) ∷ []) (no_more w.seat.listed.seen i) (no_more w.fresh_claims i) (w.fresh_wins ++ (root, leaf) ∷ [])
-more_win w root leaf (Some x) = λ i. listing w (no_more w.seat.listed.claims i) (no_more w.seat.listed.wins i) (w.seat.listed.seen ++ root_word root (Some x) ∷ []) (no_more w.fresh_claims i) (no_more w.fresh_wins i)
-
-pub more_look : (w : WorkerState) (sight : Sight) → work_after_look w sight ≡ with_more w (looked nothing sight)
-more_look w sight = λ i. listing w (no_more w.seat.listed.claims i) (no_more w.seat.listed.wins i) (w.seat.listed.seen ++ sight ∷ []) (no_more w.fresh_claims i) (no_more w.fresh_wins i)
 
 -- Growth.
 
@@ -83,35 +67,6 @@ grow_all b (v ∷ vs) (w ∷ ws) ((l, e), g) (board, number, seats, all) = (
   ap (λ (x : WorkerState). x.seat.seats) e ∙ seats ∙ ap (λ n. 1 + n) (length-map vs (λ (x : WorkerState). x.seat) ∙ sym (grow_many vs ws g) ∙ sym (length-map ws (λ (x : WorkerState). x.seat))),
   grow_numbered b 1 vs ws g all,
 )
-
--- What a worker knows.
-
-pub knows_row : (v w : WorkerState) (row x : ℕ) → HasGrown v w → KnowsRow v.seat row x → KnowsRow w.seat row x
-knows_row v w row x (l, e) knows = subst (λ (u : WorkerState). KnowsRow u.seat row x) (sym e) (⊎_elim inl (λ k. ⊎_elim
-    (λ (t : Among (row, x) v.seat.listed.claims). inr (inl (among_left (row, x) v.seat.listed.claims l.claims t)))
-    (λ (t : Among (row_word row (Some x)) v.seat.listed.seen). inr (inr (among_left (row_word row (Some x)) v.seat.listed.seen l.seen t))) k) knows)
-
-pub knows_root : (v w : WorkerState) (root x : ℕ) → HasGrown v w → KnowsRoot v.seat root x → KnowsRoot w.seat root x
-knows_root v w root x (l, e) knows = subst (λ (u : WorkerState). KnowsRoot u.seat root x) (sym e) (⊎_elim inl (λ k. ⊎_elim
-    (λ (t : Among (root, x) v.seat.listed.wins). inr (inl (among_left (root, x) v.seat.listed.wins l.wins t)))
-    (λ (t : Among (root_word root (Some x)) v.seat.listed.seen). inr (inr (among_left (root_word root (Some x)) v.seat.listed.seen l.seen t))) k) knows)
-
-at_the_end : {X : Type 0} (x : X) (xs : List X) → Among x (xs ++ x ∷ [])
-at_the_end x xs = among_right x xs (x ∷ []) (inl refl)
-
-pub knows_claim : (s : Seat) (row col x : ℕ) (found : Option ℕ) → value_or found (Some col) ≡ Some x → KnowsRow (after_claim s row col found) row x
-knows_claim s row col x None e = inr (inl (subst (λ y. Among (row, y) (s.listed.claims ++ (row, col) ∷ [])) (same_Some _ _ e) (at_the_end (row, col) s.listed.claims)))
-knows_claim s row col x (Some y) e = inr (inr (subst (λ z. Among (row_word row (Some z)) (s.listed.seen ++ row_word row (Some y) ∷ [])) (same_Some _ _ e) (at_the_end (row_word row (Some y)) s.listed.seen)))
-
-pub knows_win : (s : Seat) (root leaf x : ℕ) (found : Option ℕ) → value_or found (Some leaf) ≡ Some x → KnowsRoot (after_win s root leaf found) root x
-knows_win s root leaf x None e = inr (inl (subst (λ y. Among (root, y) (s.listed.wins ++ (root, leaf) ∷ [])) (same_Some _ _ e) (at_the_end (root, leaf) s.listed.wins)))
-knows_win s root leaf x (Some y) e = inr (inr (subst (λ z. Among (root_word root (Some z)) (s.listed.seen ++ root_word root (Some y) ∷ [])) (same_Some _ _ e) (at_the_end (root_word root (Some y)) s.listed.seen)))
-
-pub knows_look_row : (s : Seat) (row x : ℕ) → KnowsRow (after_look s (row_word row (Some x))) row x
-knows_look_row s row x = inr (inr (at_the_end (row_word row (Some x)) s.listed.seen))
-
-pub knows_look_root : (s : Seat) (root x : ℕ) → KnowsRoot (after_look s (root_word root (Some x))) root x
-knows_look_root s root x = inr (inr (at_the_end (root_word root (Some x)) s.listed.seen))
 
 -- One kind of list, of all seats and of all workers: what is added to the one is added to the other.
 

@@ -2,7 +2,7 @@
 use Rattle.std.specs.Prelude.{ℕ, ◌+◌, List, [], ◌∷◌, Option, flat_map, map, ◌≡◌, ◌++◌}
 use Rattle.claim_words.specs.Board.{Board}
 use Rattle.claim_words.specs.Listed.{Sight, with_written, Listed, all_listed, followed_by}
-use Rattle.claim_words.specs.Seat.{AreAllSeats, KnowsRoot, KnowsRow, Seat, after_claim, after_look, after_win, first_seat, new_seat, gathered, lists_of, with_listed}
+use Rattle.claim_words.specs.Seat.{AreAllSeats, Seat, after_claim, after_look, after_win, first_seat, new_seat, gathered, lists_of, with_listed}
 
 -- the claims and the wins that it listed since it was settled, in order
 pub record WorkerState : Type 0 where
@@ -74,11 +74,6 @@ HaveGrown [] [] = Unit {0}
 HaveGrown [] (w ∷ ws) = ⊥
 HaveGrown (v ∷ vs) [] = ⊥
 HaveGrown (v ∷ vs) (w ∷ ws) = HasGrown v w × HaveGrown vs ws
-
--- what the one worker knows of a word the other knows too
-pub record KnowsAsMuch (v w : WorkerState) : Type 0 where
-  pub row : (row x : ℕ) → KnowsRow v.seat row x → KnowsRow w.seat row x
-  pub root : (root x : ℕ) → KnowsRoot v.seat root x → KnowsRoot w.seat root x
 
 -- what the seats of all workers list together
 abbrev pub listed_by_workers : List WorkerState → Listed

@@ -28,6 +28,5 @@ pub use laws::{
 pub use seat::ClaimSeat;
 pub use worker::{Worker, workers_are_few};
 pub use worker_laws::{
-    fresh_lists_add_up, fresh_lists_are_listed, fresh_lists_join, seats_stay, steps_add_to_lists,
-    workers_grow, workers_know_more,
+    fresh_lists_add_up, fresh_lists_are_listed, fresh_lists_join, seats_stay, workers_grow,
 };

@@ -1,27 +1,12 @@
 //! Laws on workers: what they list, step by step, and what they know.
 
-ghost use Rattle.std.specs.Prelude.{◌≡◌, ◌↔◌, ◌⊎◌, ℕ, ◌+◌, List, [], ◌++◌, Option, Some, length, map};
+ghost use Rattle.std.specs.Prelude.{◌≡◌, ◌↔◌, ◌⊎◌, ℕ, ◌+◌, List, [], ◌++◌, length, map};
 ghost use Rattle.bip_defs.specs.Lists.{Among};
 ghost use Rattle.bip_defs.specs.Occurrences.{times};
-ghost use Rattle.claim_words.specs.Accounts.{value_or};
 ghost use Rattle.claim_words.specs.Board.{Board};
-ghost use Rattle.claim_words.specs.Listed.{Listed, Sight, claimed, followed_by, looked, nothing, root_word, row_word, won};
-ghost use Rattle.claim_words.specs.Seat.{KnowsRoot, KnowsRow, Seat, after_claim, after_look, after_win};
-ghost use Rattle.claim_words.specs.WorkerState.{AreAllWorkers, HasGrown, HaveGrown, KnowsAsMuch, WorkerState, fresh_claims_of, fresh_lists, fresh_wins_of, listed_by_workers, seated, seats_of, settled, with_more, work_after_claim, work_after_look, work_after_win};
-
-/// What each step of a worker adds to what it lists. Of two steps, what the second adds stands
-/// behind what the first does.
-pub fn steps_add_to_lists()
-    ensures none { (w : WorkerState) → with_more w nothing ≡ w }
-    ensures both { (w : WorkerState) (l m : Listed)
-        → with_more (with_more w l) m ≡ with_more w (followed_by l m) }
-    ensures claim { (w : WorkerState) (row col : ℕ) (found : Option ℕ)
-        → work_after_claim w row col found ≡ with_more w (claimed nothing row col found) }
-    ensures win { (w : WorkerState) (root leaf : ℕ) (found : Option ℕ)
-        → work_after_win w root leaf found ≡ with_more w (won nothing root leaf found) }
-    ensures look { (w : WorkerState) (sight : Sight)
-        → work_after_look w sight ≡ with_more w (looked nothing sight) }
-{}
+ghost use Rattle.claim_words.specs.Listed.{nothing};
+ghost use Rattle.claim_words.specs.Seat.{Seat};
+ghost use Rattle.claim_words.specs.WorkerState.{AreAllWorkers, HaveGrown, WorkerState, fresh_claims_of, fresh_lists, fresh_wins_of, listed_by_workers, seated, seats_of, settled};
 
 /// Workers that have grown have grown since any earlier time, each of two rows of workers as both
 /// together. They stay as many as they were, and all workers of their board.
@@ -34,20 +19,6 @@ pub fn workers_grow()
     ensures many { (vs ws : List WorkerState) → HaveGrown vs ws → length ws ≡ length vs }
     ensures all { (b : Board) (vs ws : List WorkerState) → HaveGrown vs ws → AreAllWorkers b vs
         → AreAllWorkers b ws }
-{}
-
-/// A worker knows what it knew before, and what a claim, a win or a look has told it: the value
-/// that was found, or else the one that was written.
-pub fn workers_know_more()
-    ensures grown { (v w : WorkerState) → HasGrown v w → KnowsAsMuch v w }
-    ensures claim { (s : Seat) (row col x : ℕ) (found : Option ℕ)
-        → value_or found (Some col) ≡ Some x → KnowsRow (after_claim s row col found) row x }
-    ensures win { (s : Seat) (root leaf x : ℕ) (found : Option ℕ)
-        → value_or found (Some leaf) ≡ Some x → KnowsRoot (after_win s root leaf found) root x }
-    ensures look_row { (s : Seat) (row x : ℕ)
-        → KnowsRow (after_look s (row_word row (Some x))) row x }
-    ensures look_root { (s : Seat) (root x : ℕ)
-        → KnowsRoot (after_look s (root_word root (Some x))) root x }
 {}
 
 /// Where workers have grown, all seats together list a word more often by as much as all fresh
