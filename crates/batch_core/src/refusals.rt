@@ -1,4 +1,4 @@
-//! Why a run over a batch is refused, and how that is told.
+//! Why a run over a batch is refused: its status and its line on standard error.
 
 ghost use Rattle.std.specs.Prelude.{◌≡◌};
 ghost use Rattle.sp_ports.specs.Device.{WroteAsFar, seen};

@@ -21,14 +21,14 @@ use sp_ports::{Gate, Sink, Source};
 use std::alloc::Global;
 use std::thread::Threads;
 
-/// Reads a batch of files from `input`, and writes what is found of each to `out`, in order; where
-/// there is no answer, tells on `err` why.
+/// Reads a batch of files from `input`, and writes the answer to each to `out`, in order; if there
+/// is no answer, writes the reason to `err`.
 ///
-/// `words` are those after the program's name. So many workers answer the files at once, as far as
-/// threads can be had, and each calls `gate.arrive` once. The answer is the status with which the
-/// program ends: `Ok` where each file is good, `Negative` where some file is not. Nothing is
-/// written to `out` before all input is read and all memory is taken. What is said here holds
-/// whatever `gate` does, and in whatever order threads run: the text is that of one worker.
+/// `words` are those after the program's name. They set the number of workers, which answer the
+/// files side by side if threads start; each calls `gate.arrive` once. Returns the status with
+/// which the program ends: `Ok` if each file is good, `Negative` if some file is not. Nothing is
+/// written to `out` before all input is read and all memory is taken. All of this holds whatever
+/// `gate` does and in whatever order threads run: the text is that of one worker.
 ///
 /// Memory: the bytes of all files, and what the analysis of each takes while a worker is at it.
 /// Work: linear in the bytes, and that of each file's analysis.
@@ -61,7 +61,7 @@ pub fn run_batch<R: Threads + Sync, S: Source, O: Sink, E: Sink, G: Gate>(
     batch_has_no_bad_frame();
     bad_frame_stays();
     good_batch_is_read();
-    // What was not read is told as before.
+    // Of unread input the answer is the same.
     unused_input_tells();
     match read_batch_words(alloc, words) {
         Err(error) => refuse(err, &BatchRefusal::from(error)),

@@ -17,13 +17,13 @@ use std::alloc::Global;
 use std::thread;
 use std::thread::Threads;
 
-/// The answers to all files, by so many workers at once, as far as threads can be had.
-/// Each calls `gate.arrive` once.
+/// The answers to all files, by this many workers side by side if threads start. Each calls
+/// `gate.arrive` once.
 ///
-/// What a worker could not answer for want of memory is answered at the end by the caller. Answers
-/// `OutOfMemory` where that fails too, or where there is none for 8 bytes a file and worker, or for
-/// the list of answers. Work: that of each file's analysis, and at most one claim of each file by
-/// each worker.
+/// A file whose answer a worker could not allocate is answered at the end by the caller. Returns
+/// `OutOfMemory` if that fails too, or if it cannot allocate 8 bytes a file and worker, or the list
+/// of answers. Work: that of each file's analysis, and at most one claim of each file by each
+/// worker.
 pub fn answer_all<'a, R: Threads + Sync, G: Gate>(
     rt: &R,
     alloc: Global,
@@ -93,8 +93,8 @@ fn new_shares<'a>(
     Ok(shares)
 }
 
-/// The worker of each share does its work, at once with the others as far as threads can be had.
-/// They are numbered in the order of the shares.
+/// The worker of each share does its work, side by side with the others if threads start. They are
+/// numbered in the order of the shares.
 fn work_all<R: Threads + Sync, G: Gate>(
     rt: &R,
     board: &ClaimBoard,
@@ -113,7 +113,7 @@ fn work_all<R: Threads + Sync, G: Gate>(
             × (number < length board.now.roots) × (number < max_workers) }
         ensures { share.exit.now.files ≡ share.entry.now.files }
     {
-        // A file that it has no answer to for want of memory is answered later.
+        // A file whose answer it could not allocate is answered later.
         let _result = share.work(rt, board, gate, number as u32);
     };
     thread::for_each_mut(rt, shares, threads, &work);

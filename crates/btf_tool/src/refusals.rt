@@ -1,4 +1,4 @@
-//! Why a run is refused, and how that is told.
+//! Why a run is refused: its status and its line on standard error.
 
 ghost use Rattle.std.specs.Prelude.{◌≡◌};
 ghost use Rattle.std.specs.IoError.{error_kind};
