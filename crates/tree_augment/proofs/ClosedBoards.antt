@@ -12,7 +12,7 @@ use Rattle.flip_words.specs.Seat.{HasSet, HasSetTo, HoldsAllSeats, Seat, Took}
 use Rattle.forest_core.specs.Current.{IsOnPathOf, IsPairAfter, OnPath, leaf, up}
 use Rattle.forest_core.specs.Exchanged.{AreExchanged}
 use Rattle.tree_augment.specs.Augmented.{ExchangesItsPaths, HasMet}
-use Rattle.tree_augment.specs.ForestBoards.{IsBoardOf}
+use Rattle.tree_augment.specs.ForestBoards.{IsSoundBoardOf}
 
 -- one of these seats has set the vertex, or none has
 abbrev IsSetBySome : List Seat → ℕ → Type 0
@@ -30,7 +30,7 @@ some_seat : (b : Board) (ts : List Seat) → HoldsAllSeats b ts → (t : Seat) �
 some_seat b [] all = absurd (let some = all.some in omega (arith, some))
 some_seat b (t ∷ ts) all = (t, inl refl)
 
-module _ {s : State} {b : Board} {ts : List Seat} {m : Mated} (of : IsBoardOf s b) (all : HoldsAllSeats b ts) (met : (t : Seat) (x : ℕ) → Among t ts → Among x (roots_of s.leaves) → HasMet t x) (paths : (t : Seat) → Among t ts → ExchangesItsPaths s b t) (one : HaveOneTakerEach ts) (after : AreMatesAfter b ts m) where
+module _ {s : State} {b : Board} {ts : List Seat} {m : Mated} (of : IsSoundBoardOf s b) (all : HoldsAllSeats b ts) (met : (t : Seat) (x : ℕ) → Among t ts → Among x (roots_of s.leaves) → HasMet t x) (paths : (t : Seat) → Among t ts → ExchangesItsPaths s b t) (one : HaveOneTakerEach ts) (after : AreMatesAfter b ts m) where
   -- the tree of each root with a leaf was taken
   taker : (x : ℕ) → Among x (roots_of s.leaves) → (t : Seat) × Among t ts × Took t x
   taker x h =
@@ -59,7 +59,7 @@ module _ {s : State} {b : Board} {ts : List Seat} {m : Mated} (of : IsBoardOf s 
       by_none : ((t : Seat) → Among t ts → ¬ HasSet t r) → (option_at m.rows r ≡ Some c) ↔ IsPairAfter s (roots_of s.leaves) (r, c)
       by_none none =
           let mate : option_at m.rows r ≡ held b.mates r = after.row_unset r lt none in
-          let base = of.opened.row r c (subst (λ n. r < n) of.opened.rows lt) in
+          let base = of.board.opened.row r c (subst (λ n. r < n) of.board.opened.rows lt) in
           let off : ¬ IsOnPathOf s (roots_of s.leaves) r = λ on. (let (d, claim, w) = of.trees.path_root on.0 r on.2 in let (t, i, set) = path_row r d lt on claim in none t i (d, set)) in (
             λ e. inr (base.0 (sym mate ∙ e), off),
             λ p. ⊎_elim (λ (q : Among (r, c) s.claims × IsOnPathOf s (roots_of s.leaves) r). absurd (off q.1)) (λ (q : Among (r, c) s.base × (¬ IsOnPathOf s (roots_of s.leaves) r)). mate ∙ base.1 q.0) p,
@@ -87,7 +87,7 @@ module _ {s : State} {b : Board} {ts : List Seat} {m : Mated} (of : IsBoardOf s 
       by_none : ((t : Seat) → Among t ts → ¬ HasSet t (col_vertex b c)) → (option_at m.cols c ≡ Some r) ↔ IsPairAfter s (roots_of s.leaves) (r, c)
       by_none none =
           let mate : option_at m.cols c ≡ held b.mates (col_vertex b c) = after.col_unset c none in
-          let base : (held b.mates (col_vertex b c) ≡ Some r) ↔ Among (r, c) s.base = subst (λ n. (held b.mates (n + c) ≡ Some r) ↔ Among (r, c) s.base) (sym of.opened.rows) (of.opened.col r c (subst (λ n. c < n) of.opened.cols lt)) in (
+          let base : (held b.mates (col_vertex b c) ≡ Some r) ↔ Among (r, c) s.base = subst (λ n. (held b.mates (n + c) ≡ Some r) ↔ Among (r, c) s.base) (sym of.board.opened.rows) (of.board.opened.col r c (subst (λ n. c < n) of.board.opened.cols lt)) in (
             λ e. inr (base.0 (sym mate ∙ e), λ on. (let (q, w, claim) = above_mate r c on.0 (base.0 (sym mate ∙ e)) on.2 in let (t, i, set) = path_col q c (on.0, on.1, w) claim in none t i (q, set))),
             λ p. ⊎_elim
                 (λ (w : Among (r, c) s.claims × IsOnPathOf s (roots_of s.leaves) r). let (t, i, set) = path_col r c w.1 w.0 in absurd (none t i (r, set)))
@@ -96,8 +96,8 @@ module _ {s : State} {b : Board} {ts : List Seat} {m : Mated} (of : IsBoardOf s 
 
   pub exchanged_mates : SettlesAll b m ts → AreExchanged s m
   exchanged_mates e = record {
-    rows_long = e.rows ∙ of.opened.rows;
-    cols_long = e.cols ∙ of.opened.cols;
-    row = λ r c lt. row_mate r c (subst (λ n. r < n) (sym of.opened.rows) lt);
-    col = λ r c lt. col_mate r c (subst (λ n. c < n) (sym of.opened.cols) lt);
+    rows_long = e.rows ∙ of.board.opened.rows;
+    cols_long = e.cols ∙ of.board.opened.cols;
+    row = λ r c lt. row_mate r c (subst (λ n. r < n) (sym of.board.opened.rows) lt);
+    col = λ r c lt. col_mate r c (subst (λ n. c < n) (sym of.board.opened.cols) lt);
   }

@@ -10,7 +10,7 @@ use Rattle.std.proofs.lemmas.List.{append-nil, map-append, take_all, take_more}
 use Rattle.flip_words.specs.Board.{Board, col_vertex}
 use Rattle.flip_words.specs.Seat.{HasSet, HasSetTo, KnowsTaker, Seat, Took, after_take}
 use Rattle.tree_augment.specs.Augmented.{AreAsked, ExchangesItsPaths, HasAsked, HasMet, IsOnTakenPath, IsPathPair, none, saw, took}
-use Rattle.tree_augment.specs.ForestBoards.{IsBoardOf}
+use Rattle.tree_augment.specs.ForestBoards.{IsSoundBoardOf}
 use Rattle.tree_augment.specs.Rounds.{AsksFor, HasExchanged}
 
 -- A seat that takes a tree.
@@ -19,7 +19,7 @@ pub takes : (t : Seat) (x : ℕ) {u : Seat} → u ≡ after_take t x None → To
 takes t x e = subst (λ (v : Seat). Took v x) (sym e) (among_right (x, t.number) t.listed.taken ((x, t.number) ∷ []) (inl refl))
 
 -- it has set no vertex of a tree that it did not know to be taken
-pub not_set_yet : {s : State} {b : Board} {t u : Seat} {x : ℕ} → IsBoardOf s b → ExchangesItsPaths s b t → ((number : ℕ) → KnowsTaker t x number → None ≡ Some number) → u ≡ after_take t x None → (v : ℕ) → held b.trees v ≡ Some x → ¬ HasSet u v
+pub not_set_yet : {s : State} {b : Board} {t u : Seat} {x : ℕ} → IsSoundBoardOf s b → ExchangesItsPaths s b t → ((number : ℕ) → KnowsTaker t x number → None ≡ Some number) → u ≡ after_take t x None → (v : ℕ) → held b.trees v ≡ Some x → ¬ HasSet u v
 not_set_yet {s = s} {b = b} {t = t} {x = x} board was known e v tree (mate, h) = by (dec_lt v b.rows)
   where
     set : HasSetTo t v mate
@@ -34,14 +34,14 @@ not_set_yet {s = s} {b = b} {t = t} {x = x} board was known e v tree (mate, h) =
         cc
 
     row : ¬ (v < b.rows)
-    row lt = let (y, his, (on, claim)) = (was.rows v mate lt).0 set in new y his ((board.row_trees v y lt).1 (board.trees.path_root y v on))
+    row lt = let (y, his, (on, claim)) = (was.rows v mate lt).0 set in new y his ((board.board.row_trees v y lt).1 (board.trees.path_root y v on))
 
     col : (c : ℕ) → v ≢ col_vertex b c
     col c is =
         let (y, his, (on, claim)) = (was.cols mate c).0 (subst (λ i. HasSetTo t i mate) is set) in
-        let lt = subst (λ n. c < n) (sym board.opened.cols) (board.trees.claim_in_range mate c claim).1 in
+        let lt = subst (λ n. c < n) (sym board.board.opened.cols) (board.trees.claim_in_range mate c claim).1 in
         let root = board.trees.claimer_root y mate c (board.trees.path_root y mate on) claim in
-        new y his (subst (λ i. held b.trees i ≡ Some y) (sym is) ((board.col_trees c y lt).1 root))
+        new y his (subst (λ i. held b.trees i ≡ Some y) (sym is) ((board.board.col_trees c y lt).1 root))
 
     by : ¬ Dec (v < b.rows)
     by (yes lt) = row lt

@@ -20,13 +20,9 @@ IsPathPair s x p = OnPath s.base s.claims s.leaves x p.0 × Among p s.claims
 abbrev pub IsOnTakenPath : State → Seat → Place → Type 0
 IsOnTakenPath s t p = (x : ℕ) × Took t x × IsPathPair s x p
 
--- the seat has taken no tree, and so has set no vertex
-abbrev pub HasTakenNone : Seat → Type 0
-HasTakenNone t = (t.listed.taken ≡ []) × (t.listed.sets ≡ [])
-
 -- no seat has taken a tree
 abbrev pub HaveTakenNone : List Seat → Type 0
-HaveTakenNone ts = (t : Seat) → Among t ts → HasTakenNone t
+HaveTakenNone ts = (t : Seat) → Among t ts → t.listed.taken ≡ []
 
 -- the seat took the tree of the root, or has seen which seat did
 abbrev pub HasMet : Seat → ℕ → Type 0

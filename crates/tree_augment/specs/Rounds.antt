@@ -1,11 +1,11 @@
 -- One worker's round over the roots with a leaf, and its visit of each.
-use Rattle.std.specs.Prelude.{◌≡◌, ◌⊎◌, ◌↔◌, ℕ, ◌<◌, List, ◌++◌, length}
+use Rattle.std.specs.Prelude.{◌≡◌, ◌⊎◌, ◌↔◌, ℕ, ◌<◌, List, [], ◌++◌, length}
 use Rattle.bip_defs.specs.Forest.{State, roots_of}
 use Rattle.flip_words.specs.Board.{Board, col_vertex}
 use Rattle.flip_words.specs.Seat.{HasSetTo, IsSameSeat, Seat}
 use Rattle.level_sharing.specs.Each.{EachPairFrom}
-use Rattle.tree_augment.specs.Augmented.{AreAsked, ExchangesItsPaths, HasTakenNone, IsPathPair, once_round}
-use Rattle.tree_augment.specs.ForestBoards.{IsBoardOf}
+use Rattle.tree_augment.specs.Augmented.{AreAsked, ExchangesItsPaths, IsPathPair, once_round}
+use Rattle.tree_augment.specs.ForestBoards.{IsSoundBoardOf}
 
 -- the same seat, after it asked for these trees in their order
 pub record AsksFor (xs : List ℕ) (t u : Seat) : Type 0 where
@@ -27,10 +27,10 @@ pub record HasExchanged (s : State) (b : Board) (x : ℕ) (t u : Seat) : Type 0 
 
 -- of so many workers, the one with this number has a seat that has taken nothing
 pub record CanGoRound (s : State) (b : Board) (workers number : ℕ) (t : Seat) : Type 0 where
-  pub board : IsBoardOf s b
+  pub board : IsSoundBoardOf s b
   pub few : number < workers
   pub seat : t.board ≡ b
-  pub none_taken : HasTakenNone t
+  pub none_taken : t.listed.taken ≡ []
 
 -- the same seat, after its round as the worker of this number
 pub record HasGoneRound (s : State) (b : Board) (workers number : ℕ) (t u : Seat) : Type 0 where

@@ -9,7 +9,7 @@ ghost use Rattle.flip_words.specs.Seat.{HoldsAllSeats, Seat};
 ghost use Rattle.forest_core.specs.Exchanged.{AreExchanged};
 ghost use Rattle.forest_core.specs.Sound.{IsSound};
 ghost use Rattle.tree_augment.specs.Augmented.{HaveAugmented, HaveTakenNone};
-ghost use Rattle.tree_augment.specs.ForestBoards.{IsBoardOf};
+ghost use Rattle.tree_augment.specs.ForestBoards.{IsBoardOf, IsSoundBoardOf};
 ghost use Rattle.tree_augment.specs.Rounds.{HaveGoneRound};
 
 use flip_words::{each_tree_has_one_taker, mates_are_those_set, seats_stay_all};
@@ -23,8 +23,8 @@ pub fn closed_mates_are_exchanged()
 
 /// All seats of a board that was opened from a forest have augmented it, once each went round.
 pub fn rounds_augment()
-    ensures { (s : State) (b : Board) (ts us : List Seat) → IsBoardOf s b → HoldsAllSeats b ts
-        → HaveTakenNone ts → HaveGoneRound s b ts us → HaveAugmented s b us }
+    ensures { (s : State) (b : Board) (ts us : List Seat) → IsSoundBoardOf s b
+        → HoldsAllSeats b ts → HaveTakenNone ts → HaveGoneRound s b ts us → HaveAugmented s b us }
 {
     seats_stay_all();
     each_tree_has_one_taker();

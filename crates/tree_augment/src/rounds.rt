@@ -4,7 +4,7 @@ ghost use Rattle.std.specs.Prelude.{◌≡◌, ℕ, ◌≤◌, [], ◌∷◌, �
 ghost use Rattle.bip_defs.specs.Forest.{roots_of};
 ghost use Rattle.bip_defs.specs.Lists.{Among};
 ghost use Rattle.tree_augment.specs.Augmented.{ExchangesItsPaths};
-ghost use Rattle.tree_augment.specs.ForestBoards.{IsBoardOf};
+ghost use Rattle.tree_augment.specs.ForestBoards.{IsSoundBoardOf};
 ghost use Rattle.tree_augment.specs.Rounds.{AsksFor};
 
 use crate::walk::exchange;
@@ -14,7 +14,7 @@ use sp_ids::{Col, Row};
 
 // Takes the tree of a root with a leaf, and exchanges its path, unless a seat has taken it before.
 fn visit(forest: &Forest, board: &FlipBoard, seat: &mut FlipSeat, root: Col, leaf: Row)
-    requires board { IsBoardOf forest.now board.now }
+    requires board { IsSoundBoardOf forest.now board.now }
     requires seat { seat.old.board ≡ board.now }
     requires leaf { Among (root, leaf) forest.now.leaves }
     requires paths { ExchangesItsPaths forest.now board.now seat.old }
@@ -29,7 +29,7 @@ fn visit(forest: &Forest, board: &FlipBoard, seat: &mut FlipSeat, root: Col, lea
 
 // Visits each of these roots.
 fn visit_each(forest: &Forest, board: &FlipBoard, seat: &mut FlipSeat, part: &[(Col, Row)])
-    requires board { IsBoardOf forest.now board.now }
+    requires board { IsSoundBoardOf forest.now board.now }
     requires seat { seat.old.board ≡ board.now }
     requires leaves { (x r : ℕ) → Among (x, r) part.now → Among (x, r) forest.now.leaves }
     requires paths { ExchangesItsPaths forest.now board.now seat.old }
@@ -44,7 +44,7 @@ fn visit_each(forest: &Forest, board: &FlipBoard, seat: &mut FlipSeat, part: &[(
 /// Visits the roots with a leaf once round, from this place of their list on.
 pub fn go_round(forest: &Forest, board: &FlipBoard, seat: &mut FlipSeat, from: usize)
     requires from { from ≤ length forest.now.leaves }
-    requires board { IsBoardOf forest.now board.now }
+    requires board { IsSoundBoardOf forest.now board.now }
     requires seat { seat.old.board ≡ board.now }
     requires paths { ExchangesItsPaths forest.now board.now seat.old }
     ensures paths { ExchangesItsPaths forest.now board.now seat.new }

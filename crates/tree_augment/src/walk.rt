@@ -4,7 +4,7 @@ ghost use Rattle.std.specs.Prelude.{◌≡◌, ℕ, Some};
 ghost use Rattle.bip_defs.specs.Lists.{Among};
 ghost use Rattle.bip_defs.specs.WordValues.{held};
 ghost use Rattle.flip_words.specs.Seat.{HasSet, Took};
-ghost use Rattle.tree_augment.specs.ForestBoards.{IsBoardOf};
+ghost use Rattle.tree_augment.specs.ForestBoards.{IsSoundBoardOf};
 ghost use Rattle.tree_augment.specs.Rounds.{HasExchanged};
 
 use flip_words::{FlipBoard, FlipSeat};
@@ -14,7 +14,7 @@ use sp_ids::{Col, Row};
 /// Exchanges the path of a root on the board, from its leaf up, for a seat that took the root's
 /// tree and has set none of its vertices. Work: two looks and two sets for each row of the path.
 pub fn exchange(forest: &Forest, board: &FlipBoard, seat: &mut FlipSeat, root: Col, leaf: Row)
-    requires board { IsBoardOf forest.now board.now }
+    requires board { IsSoundBoardOf forest.now board.now }
     requires seat { seat.old.board ≡ board.now }
     requires leaf { Among (root, leaf) forest.now.leaves }
     requires took { Took seat.old root }

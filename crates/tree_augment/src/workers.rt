@@ -34,6 +34,7 @@ impl<'a, 'p> Work<FlipSeat, Infallible> for Rounds<'a, 'p> {
         HasGoneRound w.forest.now w.board.now w.workers number t u };
 
     fn run(&self, number: u32, seat: &mut FlipSeat) -> Result<(), Infallible> {
+        seat.is_rightful();
         let from = share_start(self.forest.leaves().len(), self.workers, number as usize);
         go_round(self.forest, self.board, seat, from);
         Ok(())

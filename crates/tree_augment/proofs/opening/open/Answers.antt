@@ -32,7 +32,7 @@ returns-clause-board g c =
     let col_trees : AreColTrees c.args.forest.now c.in_ok-col_trees.col_trees.items = search rules in
     IfOk-weaker c.new.result _ _ (λ b o. opened_board c.in_ok-row_trees.row_trees.items c.in_ok-col_trees.col_trees.items
     (subst (λ (p : Pairing × List (Option ℕ)). IsOpenedFrom p.0 p.1 b.0) (λ i. (c.base.ensures.base i, c.as_slice.ensures.value i ++ c.as_slice-2.ensures.value i)) o)
-    row_long row_trees col_trees c.base.ensures.trees) c.new.ensures.board
+    row_long row_trees col_trees) c.new.ensures.board
 
 pub returns-clause-order : goal.returns-clause-order
 returns-clause-order g c = IfOk-weaker c.new.result _ _ (λ b are. subst (AreAllSeats b.0) (sym are) (c.new_seats_are_all.ensures.all b.0 c.args.seats c.requires.seats.0)) c.new.ensures.seats

@@ -4,7 +4,7 @@ use Rattle.tree_augment.proofs.RoundLemmas.{not_set_yet, saw_asked, saw_paths, t
 use Rattle.tree_augment.proofs.rounds.visit.Goals as goal
 
 pub take-requires-clause-root : goal.take-requires-clause-root
-take-requires-clause-root c = subst (λ n. c.args.root < n) (sym c.requires.board.opened.cols) (c.requires.board.trees.leaf_in_range c.args.root c.args.leaf c.requires.leaf).0
+take-requires-clause-root c = subst (λ n. c.args.root < n) (sym c.requires.board.board.opened.cols) (c.requires.board.trees.leaf_in_range c.args.root c.args.leaf c.requires.leaf).0
 
 pub exchange-requires-clause-took : goal.exchange-requires-clause-took
 exchange-requires-clause-took c = takes c.args.seat.now c.args.root c.in-Mine.ensures.seat

@@ -7,7 +7,7 @@ loop-col-init c =
     record {
       can = record {
         sound = trees.sound;
-        board = c.requires.board;
+        board = c.requires.board.board;
         seat = c.requires.seat;
         took = c.requires.took;
         unset = c.requires.unset;

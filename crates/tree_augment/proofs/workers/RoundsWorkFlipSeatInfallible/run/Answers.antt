@@ -9,7 +9,7 @@ pub go_round-requires-clause-from : goal.go_round-requires-clause-from
 go_round-requires-clause-from c = let within = c.share_start-from.ensures.within in let same = ap (λ (ps : List Place). length ps) c.leaves.ensures.leaves in omega (arith, within, same)
 
 pub go_round-requires-clause-paths : goal.go_round-requires-clause-paths
-go_round-requires-clause-paths c = no_paths c.args.seat.now c.requires.none_taken c.args.self.now.forest.now c.args.self.now.board.now
+go_round-requires-clause-paths c = no_paths c.is_rightful.ensures c.requires.none_taken c.args.self.now.forest.now c.args.self.now.board.now
 
 -- the round began where the worker's share does
 went : (c : goal.After-go_round) → HasGoneRound c.args.self.now.forest.now c.args.self.now.board.now c.args.self.now.workers c.args.number c.args.seat.now c.go_round.new.seat
