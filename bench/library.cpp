@@ -2,8 +2,8 @@
 //
 //   library rank REPEATS LIMIT < file.mtx            blocktri_rank, blocktri_matching; cs_maxtrans, btf_maxtrans, igraph, and the
 //                                                    algorithm of Hopcroft and Karp in C++
-//   library decomposition REPEATS LIMIT < file.mtx   blocktri_decomposition, on square matrices blocktri_block_order; cs_dmperm,
-//                                                    on square matrices btf_order
+//   library decomposition REPEATS LIMIT < file.mtx   blocktri_decomposition, blocktri_dmperm, on square matrices
+//                                                    blocktri_block_order; cs_dmperm, on square matrices btf_order
 //   library heaviest REPEATS LIMIT < file.mtx        blocktri_heaviest; MUMPS' step with the making of its costs; an integer file
 //
 // Each call runs first in a child of its own, which tells how much memory it takes at most beyond what is there before, and
@@ -94,13 +94,11 @@ static void measure(Call &call) {
 // The matrix as each library wants it.
 struct Arrays {
   Columns columns;
-  std::vector<uint32_t> starts, ids;
   cs_di cxsparse{};
   igraph_t graph;
   igraph_vector_bool_t sides;
 
-  explicit Arrays(Columns read) : columns(std::move(read)), starts(columns.start.begin(), columns.start.end()) {
-    ids.assign(columns.row.begin(), columns.row.end());
+  explicit Arrays(Columns read) : columns(std::move(read)) {
     cxsparse.nzmax = static_cast<int>(columns.row.size());
     cxsparse.m = columns.rows;
     cxsparse.n = columns.cols;
@@ -129,20 +127,21 @@ static void right(int32_t status) {
   if (status != BLOCKTRI_OK) stop(blocktri_text(status));
 }
 
+// the arguments that give the matrix to a call of libblocktri
+#define LISTS(a) \
+  (a).columns.rows, (a).columns.cols, (a).columns.start.data(), (a).columns.row.data(), static_cast<int32_t>((a).columns.row.size())
+
 static Numbers rank_by_blocktri(const Arrays &a) {
-  uint32_t rank;
-  uint64_t fault;
-  right(blocktri_rank(a.columns.rows, a.starts.data(), a.starts.size(), a.ids.data(), a.ids.size(), &rank, &fault));
-  return {rank};
+  int32_t rank;
+  right(blocktri_rank(LISTS(a), 0, &rank, nullptr));
+  return {static_cast<size_t>(rank)};
 }
 
 static Numbers matching_by_blocktri(const Arrays &a) {
-  uint32_t size;
-  uint64_t fault;
-  std::vector<uint32_t> row_of_column(a.columns.cols + 1);
-  right(blocktri_matching(a.columns.rows, a.starts.data(), a.starts.size(), a.ids.data(), a.ids.size(), false,
-                          row_of_column.data(), a.columns.cols, &size, &fault));
-  return {size};
+  int32_t size;
+  std::vector<int32_t> row_of_column(a.columns.cols);
+  right(blocktri_matching(LISTS(a), 0, row_of_column.data(), nullptr, &size, nullptr));
+  return {static_cast<size_t>(size)};
 }
 
 static Numbers rank_by_cxsparse(const Arrays &a) {
@@ -235,15 +234,29 @@ class HopcroftKarp {
 
 // The rank, the rows and columns of the horizontal part, the size and the blocks of the square part, and the rows and columns of
 // the vertical part.
+static Numbers parts_of(const blocktri_sizes &s) {
+  Numbers found;
+  for (int64_t it : {s.rank, s.horizontal_rows, s.horizontal_columns, s.square, s.blocks, s.vertical_rows, s.vertical_columns})
+    found.push_back(static_cast<size_t>(it));
+  return found;
+}
+
 static Numbers decomposition_by_blocktri(const Arrays &a) {
-  std::vector<uint32_t> row_order(a.columns.rows + 1), column_order(a.columns.cols + 1), block_starts(a.starts.size());
-  std::vector<uint32_t> row_component(a.columns.rows + 1), column_component(a.columns.cols + 1);
-  blocktri_sizes s;
-  uint64_t fault;
-  right(blocktri_decomposition(a.columns.rows, a.starts.data(), a.starts.size(), a.ids.data(), a.ids.size(), row_order.data(),
-                               a.columns.rows, column_order.data(), a.columns.cols, block_starts.data(), block_starts.size(),
-                               row_component.data(), a.columns.rows, column_component.data(), a.columns.cols, &s, &fault));
-  return {s.rank, s.horizontal_rows, s.horizontal_columns, s.square, s.blocks, s.vertical_rows, s.vertical_columns};
+  std::vector<int32_t> row_order(a.columns.rows), column_order(a.columns.cols), block_starts(a.columns.cols + 1);
+  std::vector<int32_t> row_component(a.columns.rows), column_component(a.columns.cols);
+  blocktri_sizes sizes = BLOCKTRI_SIZES_INIT;
+  right(blocktri_decomposition(LISTS(a), 0, row_order.data(), column_order.data(), block_starts.data(), row_component.data(),
+                               column_component.data(), &sizes, nullptr));
+  return parts_of(sizes);
+}
+
+// As cs_dmperm, which looks for no components.
+static Numbers dmperm_by_blocktri(const Arrays &a) {
+  size_t cuts = static_cast<size_t>(std::min(a.columns.rows, a.columns.cols)) + 2;
+  std::vector<int32_t> p(a.columns.rows), q(a.columns.cols), r(cuts), s(cuts);
+  blocktri_sizes sizes = BLOCKTRI_SIZES_INIT;
+  right(blocktri_dmperm(LISTS(a), 0, p.data(), q.data(), r.data(), s.data(), nullptr, nullptr, nullptr, &sizes, nullptr));
+  return parts_of(sizes);
 }
 
 static Numbers decomposition_by_cxsparse(const Arrays &a) {
@@ -265,15 +278,13 @@ static Numbers decomposition_by_cxsparse(const Arrays &a) {
 
 // Of a square matrix 1 and the number of blocks where its rank is full, else 0.
 static Numbers order_by_blocktri(const Arrays &a) {
-  std::vector<uint32_t> row_order(a.columns.rows + 1), column_order(a.columns.cols + 1), block_starts(a.starts.size());
-  uint32_t blocks;
-  uint64_t fault;
-  int32_t status = blocktri_block_order(a.columns.rows, a.starts.data(), a.starts.size(), a.ids.data(), a.ids.size(),
-                                        row_order.data(), a.columns.rows, column_order.data(), a.columns.cols,
-                                        block_starts.data(), block_starts.size(), &blocks, &fault);
+  std::vector<int32_t> row_order(a.columns.rows), column_order(a.columns.cols), block_starts(a.columns.cols + 1);
+  int32_t blocks;
+  int32_t status = blocktri_block_order(LISTS(a), 0, row_order.data(), column_order.data(), block_starts.data(), nullptr, &blocks,
+                                        nullptr, nullptr);
   if (status == BLOCKTRI_SINGULAR) return {0};
   right(status);
-  return {1, blocks};
+  return {1, static_cast<size_t>(blocks)};
 }
 
 static Numbers order_by_suitesparse(Arrays &a) {
@@ -287,13 +298,12 @@ static Numbers order_by_suitesparse(Arrays &a) {
 
 // The sum of a heaviest diagonal.
 static Numbers heaviest_by_blocktri(const Arrays &a) {
-  size_t n = a.columns.cols, count = a.ids.size();
-  std::vector<uint32_t> row_of_column(n + 1);
-  std::vector<int64_t> row_prices(n + 1), column_prices(n + 1);
+  size_t n = a.columns.cols;
+  std::vector<int32_t> row_of_column(n);
+  std::vector<int64_t> row_prices(n), column_prices(n);
   blocktri_sum sum;
-  uint64_t fault;
-  int32_t status = blocktri_heaviest(a.columns.rows, a.starts.data(), a.starts.size(), a.ids.data(), count, a.columns.value.data(),
-                                     count, row_of_column.data(), n, row_prices.data(), n, column_prices.data(), n, &sum, &fault);
+  int32_t status = blocktri_heaviest(LISTS(a), a.columns.value.data(), 0, row_of_column.data(), row_prices.data(),
+                                     column_prices.data(), &sum, nullptr, nullptr, nullptr, nullptr);
   if (status == BLOCKTRI_SINGULAR) return {0};
   right(status);
   return {1, sum.low};
@@ -322,6 +332,7 @@ static std::vector<Call> calls_of(const std::string &job, Arrays &a) {
     add("hopcroft_karp", [&a] { return Numbers{HopcroftKarp(a.columns).rank()}; });
   } else if (job == "decomposition") {
     add("blocktri_decomposition", [&a] { return decomposition_by_blocktri(a); });
+    add("blocktri_dmperm", [&a] { return dmperm_by_blocktri(a); });
     add("cs_dmperm", [&a] { return decomposition_by_cxsparse(a); });
     if (a.columns.rows == a.columns.cols) {
       add("blocktri_block_order", [&a] { return order_by_blocktri(a); });

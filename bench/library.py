@@ -31,7 +31,7 @@ MARGIN = {"rank": 5, "decomposition": 10, "heaviest": 0}
 BESIDE = {
     "rank": [("blocktri_rank", "cs_maxtrans,btf_maxtrans,igraph,hopcroft_karp"),
              ("blocktri_matching", "cs_maxtrans,btf_maxtrans,igraph,hopcroft_karp")],
-    "decomposition": [("blocktri_decomposition", "cs_dmperm"), ("blocktri_block_order", "btf_order")],
+    "decomposition": [("blocktri_decomposition", "cs_dmperm"), ("blocktri_dmperm", "cs_dmperm"), ("blocktri_block_order", "btf_order")],
     "heaviest": [("blocktri_heaviest", "mumps")],
 }
 

@@ -18,7 +18,6 @@ import rattle_source as source  # noqa: E402
 
 # The most findings of a rule: lower the number where findings go.
 AT_MOST = {
-    "more than five arguments": 2,
     "law called in a body": 90,
     "statement stands twice": 8,
     "name with two meanings": 3,

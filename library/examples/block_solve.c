@@ -33,36 +33,35 @@ static void eliminate(int n, double a[SIZE][SIZE], double *b) {
 }
 
 int main(void) {
-  uint32_t row_order[SIZE], column_order[SIZE], block_starts[SIZE + 1], row_component[SIZE], column_component[SIZE], place[SIZE];
-  struct blocktri_sizes sizes;
-  uint64_t fault;
-  int32_t status = blocktri_decomposition(SIZE, starts, SIZE + 1, ids, ENTRIES, row_order, SIZE, column_order, SIZE, block_starts,
-                                          SIZE + 1, row_component, SIZE, column_component, SIZE, &sizes, &fault);
+  int32_t row_order[SIZE], column_order[SIZE], block_starts[SIZE + 1], place[SIZE];
+  struct blocktri_sizes sizes = BLOCKTRI_SIZES_INIT;
+  int32_t status = blocktri_decomposition(SIZE, SIZE, starts, ids, ENTRIES, 0, row_order, column_order, block_starts, NULL, NULL,
+                                          &sizes, NULL);
   if (status != BLOCKTRI_OK) return fprintf(stderr, "%s\n", blocktri_text(status)), 1;
   if (sizes.square != SIZE) return fprintf(stderr, "no values make this matrix regular\n"), 1;
-  for (uint32_t i = 0; i < SIZE; i++) place[row_order[i]] = i;
+  for (int32_t i = 0; i < SIZE; i++) place[row_order[i]] = i;
 
   /* the right side is the matrix times 1, 2, .., 6, in the order of the form */
   double rest[SIZE] = {0}, solution[SIZE];
-  for (uint32_t j = 0; j < SIZE; j++)
-    for (uint32_t k = starts[j]; k < starts[j + 1]; k++) rest[place[ids[k]]] += values[k] * (j + 1);
+  for (int32_t j = 0; j < SIZE; j++)
+    for (int32_t k = starts[j]; k < starts[j + 1]; k++) rest[place[ids[k]]] += values[k] * (j + 1);
 
-  for (uint32_t b = sizes.blocks; b-- > 0;) {
-    uint32_t begin = block_starts[b], end = block_starts[b + 1];
+  for (int64_t b = sizes.blocks; b-- > 0;) {
+    int32_t begin = block_starts[b], end = block_starts[b + 1];
     double block[SIZE][SIZE] = {{0}};
-    for (uint32_t j = begin; j < end; j++) {
-      uint32_t column = column_order[j];
-      for (uint32_t k = starts[column]; k < starts[column + 1]; k++)
+    for (int32_t j = begin; j < end; j++) {
+      int32_t column = column_order[j];
+      for (int32_t k = starts[column]; k < starts[column + 1]; k++)
         if (place[ids[k]] >= begin) block[place[ids[k]] - begin][j - begin] += values[k];
     }
-    eliminate((int)(end - begin), block, rest + begin);
-    for (uint32_t j = begin; j < end; j++) {
-      uint32_t column = column_order[j];
+    eliminate(end - begin, block, rest + begin);
+    for (int32_t j = begin; j < end; j++) {
+      int32_t column = column_order[j];
       solution[column] = rest[j];
-      for (uint32_t k = starts[column]; k < starts[column + 1]; k++)
+      for (int32_t k = starts[column]; k < starts[column + 1]; k++)
         if (place[ids[k]] < begin) rest[place[ids[k]]] -= values[k] * rest[j];
     }
   }
-  for (uint32_t j = 0; j < SIZE; j++) printf("x%" PRIu32 " = %.3f\n", j, solution[j]);
+  for (int32_t j = 0; j < SIZE; j++) printf("x%" PRId32 " = %.3f\n", j, solution[j]);
   return 0;
 }

@@ -18,22 +18,20 @@ enum { ROWS = 4, COLUMNS = 4 };
 static const char *const equations[] = {"current at 1", "current at 2", "source 1", "source 2"};
 static const char *const unknowns[] = {"v1", "v2", "i1", "i2"};
 
-static void tell(const char *what, const char *const *names, const uint32_t *order, uint32_t from, uint32_t to) {
+static void tell(const char *what, const char *const *names, const int32_t *order, int64_t from, int64_t to) {
   printf("  %s:", what);
-  for (uint32_t i = from; i < to; i++) printf("%s %s", i > from ? "," : "", names[order[i]]);
+  for (int64_t i = from; i < to; i++) printf("%s %s", i > from ? "," : "", names[order[i]]);
   printf("\n");
 }
 
 int main(void) {
-  const uint32_t starts[COLUMNS + 1] = {0, 4, 6, 7, 8}, ids[] = {0, 1, 2, 3, 0, 1, 0, 0};
-  uint32_t row_order[ROWS], column_order[COLUMNS], block_starts[COLUMNS + 1], row_component[ROWS], column_component[COLUMNS];
-  struct blocktri_sizes sizes;
-  uint64_t fault;
-  int32_t status = blocktri_decomposition(ROWS, starts, COLUMNS + 1, ids, 8, row_order, ROWS, column_order, COLUMNS,
-                                          block_starts, COLUMNS + 1, row_component, ROWS, column_component, COLUMNS, &sizes,
-                                          &fault);
+  const int32_t starts[COLUMNS + 1] = {0, 4, 6, 7, 8}, ids[] = {0, 1, 2, 3, 0, 1, 0, 0};
+  int32_t row_order[ROWS], column_order[COLUMNS], block_starts[COLUMNS + 1];
+  struct blocktri_sizes sizes = BLOCKTRI_SIZES_INIT;
+  int32_t status = blocktri_decomposition(ROWS, COLUMNS, starts, ids, 8, 0, row_order, column_order, block_starts, NULL, NULL,
+                                          &sizes, NULL);
   if (status != BLOCKTRI_OK) return fprintf(stderr, "%s\n", blocktri_text(status)), 1;
-  printf("rank %" PRIu32 " of %d\n", sizes.rank, ROWS);
+  printf("rank %" PRId64 " of %d\n", sizes.rank, ROWS);
   if (sizes.horizontal_columns > 0) {
     printf("more unknowns than equations\n");
     tell("equations", equations, row_order, 0, sizes.horizontal_rows);

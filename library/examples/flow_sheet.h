@@ -12,5 +12,5 @@
 
 enum { SIZE = 6, ENTRIES = 12 };
 
-static const uint32_t starts[SIZE + 1] = {0, 2, 4, 6, 8, 10, 12};
-static const uint32_t ids[ENTRIES] = {0, 3, 1, 4, 0, 5, 0, 3, 1, 4, 1, 2};
+static const int32_t starts[SIZE + 1] = {0, 2, 4, 6, 8, 10, 12};
+static const int32_t ids[ENTRIES] = {0, 3, 1, 4, 0, 5, 0, 3, 1, 4, 1, 2};

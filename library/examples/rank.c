@@ -5,10 +5,9 @@
 #include "blocktri.h"
 
 int main(void) {
-  uint32_t starts[] = {0, 3, 4, 4}, ids[] = {0, 1, 2, 0}, rank;
-  uint64_t fault;
-  int32_t status = blocktri_rank(3, starts, 4, ids, 4, &rank, &fault);
+  int32_t starts[] = {0, 3, 4, 4}, ids[] = {0, 1, 2, 0}, rank;
+  int32_t status = blocktri_rank(3, 3, starts, ids, 4, 0, &rank, NULL);
   if (status != BLOCKTRI_OK) return fprintf(stderr, "%s\n", blocktri_text(status)), 1;
-  printf("rank %" PRIu32 "\n", rank);
+  printf("rank %" PRId32 "\n", rank);
   return 0;
 }

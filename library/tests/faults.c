@@ -1,146 +1,253 @@
-/* Each kind of fault at each place of a small matrix: its status and its place, and nothing else is written. */
+/* Each kind of fault at each place: its status and its place, and nothing else is written. */
 #include "check.h"
 
 static const struct matrix right = {
     .rows = 4, .columns = 4, .count = 7, .starts = {0, 1, 2, 4, 7}, .ids = {0, 0, 1, 0, 3, 1, 2}};
 
-/* all calls must give the status and the place, where it has one, and write nothing else */
-static void refused(struct matrix *a, int32_t status, uint64_t fault) {
-  struct answer got = ask(a, false), kept = untouched();
-  CHECK(got.rank_status == status && got.matching_status == status && got.form_status == status);
-  CHECK(got.order_status == status);
-  kept.rank_status = kept.matching_status = kept.form_status = kept.order_status = status;
-  if (status == BLOCKTRI_BAD_START || status == BLOCKTRI_BAD_ROW) kept.fault = fault;
-  CHECK(!memcmp(&got, &kept, sizeof got));
+enum { NO_PLACE = -1 };
+
+/* the answer of one width tells this status and place, and nothing else was written */
+static void tells(enum call call, const struct answer *got, int64_t status, int64_t place) {
+  struct answer kept = untouched(call, status);
+  if (place != NO_PLACE) kept.output[FAULT][0] = place;
+  CHECK(memcmp(got, &kept, sizeof kept) == 0);
 }
 
-static void starts_that_are_not_right(void) {
-  for (uint32_t at = 0; at <= right.columns; at++) {
+/* every call in 32 bits, as the lists of columns and as those of rows, for the lists of a square matrix may be either */
+static void narrow_refused(const struct matrix *a, int64_t status, int64_t place) {
+  for (int call = 0; call < CALLS; call++)
+    for (uint32_t flags = 0; flags <= BLOCKTRI_BY_ROWS; flags += BLOCKTRI_BY_ROWS) {
+      struct answer got = answer_of((enum call)call, a, flags, 0);
+      tells((enum call)call, &got, status, place);
+      got = answer_of((enum call)call, a, flags, 1u << FAULT);
+      tells((enum call)call, &got, status, NO_PLACE);
+    }
+}
+
+static void wide_refused(const struct matrix *a, int64_t status, int64_t place) {
+  for (int call = 0; call < CALLS; call++)
+    for (uint32_t flags = 0; flags <= BLOCKTRI_BY_ROWS; flags += BLOCKTRI_BY_ROWS) {
+      struct answer got = answer_of_64((enum call)call, a, flags, 0);
+      tells((enum call)call, &got, status, place);
+      got = answer_of_64((enum call)call, a, flags, 1u << FAULT);
+      tells((enum call)call, &got, status, NO_PLACE);
+    }
+}
+
+static void refused(struct matrix *a, int64_t status, int64_t place) {
+  widen(a);
+  narrow_refused(a, status, place);
+  wide_refused(a, status, place);
+}
+
+/* numbers that are no start anywhere: of the first and the last start it is that place, of another the one behind it, since a
+ * negative one counts as greater than all others */
+static void starts_that_are_wrong(void) {
+  static const int32_t narrow[] = {INT32_MAX, INT32_MIN, -1, 8};
+  static const int64_t wide[] = {INT64_MAX, INT64_MIN, -1, 8, INT64_C(1) << 32, (INT64_C(1) << 32) + 1, (INT64_C(1) << 32) + 7};
+  for (int at = 0; at <= 4; at++) {
+    int64_t place = at == 0 || at == 4 ? at : at + 1;
     struct matrix a = right;
-    /* as great as it can be: of the first start that is at fault itself, of the last too, of another the one behind it */
-    a.starts[at] = UINT32_MAX;
+    for (size_t i = 0; i < sizeof narrow / sizeof *narrow; i++) {
+      a.starts[at] = narrow[i];
+      narrow_refused(&a, BLOCKTRI_BAD_START, place);
+    }
+    a = right;
     widen(&a);
-    refused(&a, BLOCKTRI_BAD_START, at == 0 || at == right.columns ? at : at + 1);
-    a.wide_starts[at] = UINT64_MAX;
-    struct answer got = untouched();
-    got.rank_status =
-        blocktri_rank_64(a.rows, a.wide_starts, a.columns + 1, a.wide_ids, a.count, &got.rank, &got.fault);
-    CHECK(got.rank_status == BLOCKTRI_BAD_START && got.fault == (at == 0 || at == right.columns ? at : at + 1));
+    for (size_t i = 0; i < sizeof wide / sizeof *wide; i++) {
+      a.wide_starts[at] = wide[i];
+      wide_refused(&a, BLOCKTRI_BAD_START, place);
+    }
     /* less than the one before it */
     if (at > 1) {
       a = right;
       a.starts[at] = a.starts[at - 1] - 1;
-      widen(&a);
       refused(&a, BLOCKTRI_BAD_START, at);
     }
   }
+}
+
+static void last_starts_that_are_wrong(void) {
   struct matrix a = right;
   a.count = 6;
-  widen(&a);
   refused(&a, BLOCKTRI_BAD_START, 4);
-  a = right;
-  a.starts[4] = 6;
-  widen(&a);
+  a.count = 8;
   refused(&a, BLOCKTRI_BAD_START, 4);
+  a.count = 0;
+  refused(&a, BLOCKTRI_BAD_START, 4);
+  a.left_out = NO_IDS | NO_VALUES;
+  refused(&a, BLOCKTRI_BAD_START, 4);
+  /* of no columns the one start is the last one too */
+  struct matrix none = {.rows = 0, .columns = 0, .count = 1, .ids = {0}};
+  refused(&none, BLOCKTRI_BAD_START, 0);
+  none.left_out = NO_STARTS;
+  refused(&none, BLOCKTRI_BAD_START, 0);
 }
 
-static void no_starts(void) {
-  struct answer got = untouched();
-  uint32_t none[1] = {0};
-  CHECK(blocktri_rank(0, none, 0, none, 0, &got.rank, &got.fault) == BLOCKTRI_BAD_START && got.fault == 0);
-  got = untouched();
-  CHECK(blocktri_matching(0, none, 0, none, 0, false, none, 0, &got.size, &got.fault) == BLOCKTRI_BAD_START);
-  int32_t form = blocktri_decomposition(0, none, 0, none, 0, none, 0, none, 0, none, 0, none, 0, none, 0, &got.sizes, &got.fault);
-  CHECK(form == BLOCKTRI_BAD_START && got.fault == 0 && got.sizes.rank == UNTOUCHED && got.size == UNTOUCHED);
-  got = untouched();
-  int32_t order = blocktri_block_order(0, none, 0, none, 0, none, 0, none, 0, none, 0, &got.blocks, &got.fault);
-  CHECK(order == BLOCKTRI_BAD_START && got.fault == 0 && got.blocks == UNTOUCHED);
+static void ids_out_of_range(void) {
+  static const int32_t narrow[] = {4, INT32_MAX, -1, INT32_MIN};
+  static const int64_t wide[] = {4, INT64_MAX, -1, INT64_MIN, UINT32_MAX, INT64_C(1) << 32, (INT64_C(1) << 32) + 1};
+  for (int at = 0; at < right.count; at++) {
+    struct matrix a = right;
+    for (size_t i = 0; i < sizeof narrow / sizeof *narrow; i++) {
+      a.ids[at] = narrow[i];
+      narrow_refused(&a, BLOCKTRI_BAD_ROW, at);
+    }
+    /* a later one is told later, a wrong start before */
+    a.ids[6] = -1;
+    narrow_refused(&a, BLOCKTRI_BAD_ROW, at);
+    a.starts[0] = 1;
+    narrow_refused(&a, BLOCKTRI_BAD_START, 0);
+    a = right;
+    widen(&a);
+    for (size_t i = 0; i < sizeof wide / sizeof *wide; i++) {
+      a.wide_ids[at] = wide[i];
+      wide_refused(&a, BLOCKTRI_BAD_ROW, at);
+    }
+  }
 }
 
-static void ids_that_are_no_rows(void) {
-  for (uint32_t at = 0; at < right.count; at++) {
-    for (int is_great = 0; is_great < 2; is_great++) {
+/* by columns ids are less than rows, by rows less than columns */
+static void ids_of_the_other_side(void) {
+  struct matrix a = {.rows = 3, .columns = 2, .count = 2, .starts = {0, 1, 2}, .ids = {1, 2}};
+  widen(&a);
+  struct answer got = ask(RANK, &a, 0);
+  CHECK(got.status == BLOCKTRI_OK && got.output[RANK_RANK][0] == 2);
+  a.rows = 2, a.columns = 3;
+  got = ask(RANK, &a, BLOCKTRI_BY_ROWS);
+  CHECK(got.status == BLOCKTRI_OK && got.output[RANK_RANK][0] == 2);
+  a.rows = 3, a.columns = 2, a.count = 2, a.starts[3] = 2;
+  widen(&a);
+  got = ask(RANK, &a, BLOCKTRI_BY_ROWS);
+  tells(RANK, &got, BLOCKTRI_BAD_ROW, 1);
+}
+
+/* each size at a time, which is told before a wrong start */
+static void sizes_out_of_range(void) {
+  static const int64_t narrow[] = {-1, INT32_MIN}, wide[] = {-1, INT64_MIN, INT64_MAX, INT64_C(1) << 32};
+  for (int which = 0; which < 3; which++) {
+    struct matrix a = right;
+    int64_t *size = which == 0 ? &a.rows : which == 1 ? &a.columns : &a.count;
+    a.starts[0] = 1;
+    widen(&a);
+    for (size_t i = 0; i < sizeof narrow / sizeof *narrow; i++) {
+      *size = narrow[i];
+      narrow_refused(&a, BLOCKTRI_BAD_SIZE, NO_PLACE);
+    }
+    for (size_t i = 0; i < sizeof wide / sizeof *wide; i++) {
+      *size = wide[i];
+      wide_refused(&a, BLOCKTRI_BAD_SIZE, NO_PLACE);
+    }
+  }
+}
+
+/* sizes at their limits are looked at no more than others: the wrong start is told */
+static void sizes_at_their_limits(void) {
+  static const int64_t sizes[] = {INT32_MAX, INT64_C(1) << 31, UINT32_MAX};
+  for (size_t i = 0; i < sizeof sizes / sizeof *sizes; i++)
+    for (int call = 0; call < CALLS; call++) {
       struct matrix a = right;
-      a.ids[at] = is_great ? UINT32_MAX : a.rows;
-      widen(&a);
-      refused(&a, BLOCKTRI_BAD_ROW, at);
-      a.wide_ids[at] = UINT64_C(1) << 32;
-      struct answer got = untouched();
-      int32_t status = blocktri_rank_64(a.rows, a.wide_starts, a.columns + 1, a.wide_ids, a.count, &got.rank, &got.fault);
-      CHECK(status == BLOCKTRI_BAD_ROW && got.fault == at && got.rank == UNTOUCHED);
-      /* a start that is at fault is told before it */
-      a.starts[0] = 1;
-      widen(&a);
-      refused(&a, BLOCKTRI_BAD_START, 0);
+      a.starts[4] = 6, a.count = sizes[i];
+      for (int k = 0; k <= 4; k++) a.wide_starts[k] = a.starts[k];
+      a.rows = sizes[i];
+      struct answer got = answer_of_64((enum call)call, &a, 0, 0);
+      tells((enum call)call, &got, BLOCKTRI_BAD_START, 4);
+      a.rows = 4, a.columns = sizes[i];
+      got = answer_of_64((enum call)call, &a, BLOCKTRI_BY_ROWS, 0);
+      tells((enum call)call, &got, BLOCKTRI_BAD_START, 4);
+      if (i > 0) continue;
+      got = answer_of((enum call)call, &a, BLOCKTRI_BY_ROWS, 0);
+      tells((enum call)call, &got, BLOCKTRI_BAD_START, 4);
     }
+}
+
+/* the number of the argument flags */
+static int64_t flags_of(enum call call) { return is_valued(call) ? 7 : 6; }
+
+/* both widths, with an argument that cannot be taken, beside sizes and starts that are wrong and are told later */
+static void bad_argument(enum call call, struct matrix a, uint32_t flags, int64_t number) {
+  for (int is_worse = 0; is_worse < 2; is_worse++) {
+    struct answer got = ask(call, &a, flags);
+    tells(call, &got, BLOCKTRI_BAD_ARGUMENT, number);
+    a.starts[0] = 1, a.rows = -1;
+    widen(&a);
   }
 }
 
-static void too_many_rows(void) {
+static void arguments_that_cannot_be_taken(void) {
   struct matrix a = right;
   widen(&a);
-  a.wide_starts[0] = 1;
-  struct answer got = untouched(), kept = untouched();
-  uint64_t rows = UINT64_C(1) << 32;
-  CHECK(blocktri_rank_64(rows, a.wide_starts, 5, a.wide_ids, 7, &got.rank, &got.fault) == BLOCKTRI_TOO_MANY_ROWS);
-  CHECK(blocktri_matching_64(rows, a.wide_starts, 5, a.wide_ids, 7, false, got.row_of_column, 4, &got.size, &got.fault) ==
-        BLOCKTRI_TOO_MANY_ROWS);
-  /* a list of so many places is not to be had, and a shorter one is told before */
-  CHECK(blocktri_decomposition_64(rows, a.wide_starts, 5, a.wide_ids, 7, got.row_order, 4, got.column_order, 4, got.block_starts,
-                                  5, got.row_component, 4, got.column_component, 4, &got.sizes, &got.fault) ==
-        BLOCKTRI_BAD_LENGTH);
-  CHECK(blocktri_block_order_64(rows, a.wide_starts, 5, a.wide_ids, 7, got.row_order, 4, got.column_order, 4,
-                                got.block_starts, 5, &got.blocks, &got.fault) == BLOCKTRI_BAD_LENGTH);
-  CHECK(!memcmp(&got, &kept, sizeof got));
-}
-
-/* a decomposition with one of its lists of another length */
-static int32_t decomposed(const struct matrix *a, struct answer *got, int which, size_t n) {
-  size_t lengths[] = {4, 4, 5, 4, 4};
-  lengths[which] = n;
-  return blocktri_decomposition(4, a->starts, 5, a->ids, 7, got->row_order, lengths[0], got->column_order, lengths[1],
-                                got->block_starts, lengths[2], got->row_component, lengths[3], got->column_component, lengths[4],
-                                &got->sizes, &got->fault);
-}
-
-static void lists_of_the_wrong_length(void) {
-  struct matrix a = right;
-  a.starts[0] = 1; /* which is told later than a wrong length */
-  struct answer got = untouched(), kept = untouched();
-  for (size_t n = 0; n < 8; n++) {
-    for (int which = 0; which < 5; which++)
-      CHECK(decomposed(&a, &got, which, n + (n >= (which == 2 ? 5 : 4))) == BLOCKTRI_BAD_LENGTH);
-    if (n != 4) {
-      CHECK(blocktri_matching(4, a.starts, 5, a.ids, 7, true, got.row_of_column, n, &got.size, &got.fault) ==
-            BLOCKTRI_BAD_LENGTH);
-      CHECK(blocktri_block_order(4, a.starts, 5, a.ids, 7, got.row_order, n, got.column_order, 4, got.block_starts, 5,
-                                 &got.blocks, &got.fault) == BLOCKTRI_BAD_LENGTH);
-      CHECK(blocktri_block_order(4, a.starts, 5, a.ids, 7, got.row_order, 4, got.column_order, n, got.block_starts, 5,
-                                 &got.blocks, &got.fault) == BLOCKTRI_BAD_LENGTH);
+  for (int k = 0; k < CALLS; k++) {
+    enum call call = (enum call)k;
+    for (int bit = 0; bit < 32; bit++) {
+      uint32_t flag = UINT32_C(1) << bit;
+      if ((flag & known_to(call)) != 0) continue;
+      a.left_out = 0;
+      bad_argument(call, a, flag, flags_of(call));
+      bad_argument(call, a, flag | known_to(call), flags_of(call));
+      /* of several the first */
+      a.left_out = NO_IDS | NO_VALUES;
+      bad_argument(call, a, flag, 4);
     }
-    if (n != 5)
-      CHECK(blocktri_block_order(4, a.starts, 5, a.ids, 7, got.row_order, 4, got.column_order, 4, got.block_starts, n,
-                                 &got.blocks, &got.fault) == BLOCKTRI_BAD_LENGTH);
+    for (uint32_t flags = 0; flags <= BLOCKTRI_BY_ROWS; flags += BLOCKTRI_BY_ROWS) {
+      a.left_out = NO_STARTS;
+      bad_argument(call, a, flags, 3);
+      a.left_out = NO_STARTS | NO_IDS | NO_VALUES;
+      bad_argument(call, a, flags, 3);
+      a.left_out = NO_IDS;
+      bad_argument(call, a, flags, 4);
+      a.left_out = NO_VALUES;
+      if (is_valued(call)) bad_argument(call, a, flags, 6);
+    }
   }
-  CHECK(!memcmp(&got, &kept, sizeof got));
+}
+
+/* starts may be NULL for no columns, by rows for no rows, and only there */
+static void starts_of_one_side(void) {
+  struct matrix a = {.rows = 2, .columns = 0, .left_out = NO_STARTS | NO_IDS | NO_VALUES};
+  for (int k = 0; k < CALLS; k++) {
+    enum call call = (enum call)k;
+    a.rows = 2, a.columns = 0;
+    struct answer got = ask(call, &a, BLOCKTRI_BY_ROWS);
+    tells(call, &got, BLOCKTRI_BAD_ARGUMENT, 3);
+    a.rows = 0, a.columns = 2;
+    got = ask(call, &a, 0);
+    tells(call, &got, BLOCKTRI_BAD_ARGUMENT, 3);
+    a.rows = 0, a.columns = -1;
+    got = ask(call, &a, 0);
+    tells(call, &got, BLOCKTRI_BAD_ARGUMENT, 3);
+  }
 }
 
 static void texts(void) {
-  static const int32_t statuses[] = {BLOCKTRI_OK,        BLOCKTRI_SINGULAR,    BLOCKTRI_SUM_LIMIT,  BLOCKTRI_OUT_OF_MEMORY,
-                                     BLOCKTRI_BAD_START, BLOCKTRI_BAD_ROW,     BLOCKTRI_BAD_LENGTH, BLOCKTRI_TOO_MANY_ROWS,
-                                     BLOCKTRI_PRICE_LIMIT, -1 /* no status */};
+  static const int32_t statuses[] = {BLOCKTRI_OK,        BLOCKTRI_SINGULAR,     BLOCKTRI_NOT_SQUARE, BLOCKTRI_SUM_LIMIT,
+                                     BLOCKTRI_OUT_OF_MEMORY, BLOCKTRI_BAD_START, BLOCKTRI_BAD_ROW,    BLOCKTRI_BAD_SIZE,
+                                     BLOCKTRI_PRICE_LIMIT, BLOCKTRI_BAD_ARGUMENT, -1 /* no status */};
+  static const int32_t numbers[] = {0, 1, 2, 4, 7, 20, 21, 23, 24, 25, -1};
   size_t count = sizeof statuses / sizeof *statuses;
-  for (size_t i = 0; i < count; i++)
-    for (size_t j = 0; j < i; j++) CHECK(strcmp(blocktri_text(statuses[i]), blocktri_text(statuses[j])));
-  CHECK(!strcmp(blocktri_text(2), blocktri_text(-1)));
+  for (size_t i = 0; i < count; i++) {
+    CHECK(statuses[i] == numbers[i] && strlen(blocktri_text(statuses[i])) > 0);
+    for (size_t j = 0; j < i; j++) CHECK(strcmp(blocktri_text(statuses[i]), blocktri_text(statuses[j])) != 0);
+  }
+  static const int32_t none[] = {3, 5, 6, 8, 19, 22, 26, 27, 28, 29, INT32_MAX, INT32_MIN};
+  for (size_t i = 0; i < sizeof none / sizeof *none; i++) CHECK(strcmp(blocktri_text(none[i]), blocktri_text(-1)) == 0);
+}
+
+static void version(void) {
+  CHECK(BLOCKTRI_VERSION_MAJOR == 1 && BLOCKTRI_VERSION_MINOR == 0 && BLOCKTRI_VERSION_PATCH == 0);
+  CHECK(BLOCKTRI_VERSION == 1000000 && blocktri_version() == 1000000);
 }
 
 int main(void) {
-  starts_that_are_not_right();
-  no_starts();
-  ids_that_are_no_rows();
-  too_many_rows();
-  lists_of_the_wrong_length();
+  starts_that_are_wrong();
+  last_starts_that_are_wrong();
+  ids_out_of_range();
+  ids_of_the_other_side();
+  sizes_out_of_range();
+  sizes_at_their_limits();
+  arguments_that_cannot_be_taken();
+  starts_of_one_side();
   texts();
+  version();
   return 0;
 }

@@ -13,7 +13,7 @@ use Rattle.bip_defs.proofs.Queues.{distinct_at}
 use Rattle.bip_defs.proofs.Sets.{among_at, among_last, among_left, among_map_back, among_right, number_same, rising_distinct}
 use Rattle.bip_defs.proofs.Square.{cols_apart, rows_apart}
 use Rattle.bip_graph.specs.Matching.{none}
-use Rattle.blocktri.specs.OuterComponents.{AreApart, AreComponentNumbers, AreNumbered, IsWrittenAt, cols_of_block, rows_of_block}
+use Rattle.blocktri.specs.OuterComponents.{AreApart, AreColumnComponents, AreNumbered, AreRowComponents, IsWrittenAt, cols_of_block, rows_of_block}
 
 -- One number at the places of a list.
 
@@ -130,19 +130,13 @@ few_vertical a c n are some long = few_ordered a (IsVerticalVertex a) least_row 
 neither_numbered : (f : Block → List ℕ) (hs vs : List Block) (start mid new : List ℕ) (x : ℕ) → AreNumbered f hs (length hs) start mid → AreNumbered f vs (length vs) mid new → ((i : ℕ) → i < length hs → ¬ Among x (f (block_at hs i))) → ((i : ℕ) → i < length vs → ¬ Among x (f (block_at vs i))) → get_or new x 0 ≡ get_or start x 0
 neither_numbered f hs vs start mid new x h v out out2 = v.others x out2 ∙ h.others x out
 
-pub component_numbers : (a : Matrix) (c : Components) (no_rows mid_rows rows no_columns mid_columns columns : List ℕ) → AreConnectedComponents a c
-    → length no_rows ≡ a.rows → length no_columns ≡ cols a → ((r : ℕ) → r < a.rows → get_or no_rows r 0 ≡ none) → ((d : ℕ) → d < cols a → get_or no_columns d 0 ≡ none)
-    → AreNumbered rows_of_block c.horizontal (length c.horizontal) no_rows mid_rows → AreNumbered rows_of_block c.vertical (length c.vertical) mid_rows rows
-    → AreNumbered cols_of_block c.horizontal (length c.horizontal) no_columns mid_columns → AreNumbered cols_of_block c.vertical (length c.vertical) mid_columns columns → AreComponentNumbers a c rows columns
-component_numbers a c no_rows mid_rows rows no_columns mid_columns columns are long long2 none_row none_col x y z w = record {
-  long_rows = y.long ∙ x.long ∙ long;
-  long_columns = w.long ∙ z.long ∙ long2;
-  horizontal_rows = λ i r lt h. y.others r (λ j lt2 k. rows_apart a r (of_horizontal i r lt h) (of_vertical j r lt2 k)) ∙ x.here i r lt h;
-  horizontal_columns = λ i d lt h. w.others d (λ j lt2 k. cols_apart a d (on_horizontal i d lt h) (on_vertical j d lt2 k)) ∙ z.here i d lt h;
-  vertical_rows = y.here;
-  vertical_columns = w.here;
-  square_rows = λ r s. neither_numbered rows_of_block c.horizontal c.vertical no_rows mid_rows rows r x y (λ i lt h. s.1 (of_horizontal i r lt h)) (λ i lt h. s.2 (of_vertical i r lt h)) ∙ none_row r s.0;
-  square_columns = λ d s. neither_numbered cols_of_block c.horizontal c.vertical no_columns mid_columns columns d z w (λ i lt h. s.1 (on_horizontal i d lt h)) (λ i lt h. s.2 (on_vertical i d lt h)) ∙ none_col d s.0;
+pub row_components : (a : Matrix) (c : Components) (start mid xs : List ℕ) → AreConnectedComponents a c → length start ≡ a.rows → ((r : ℕ) → r < a.rows → get_or start r 0 ≡ none)
+    → AreNumbered rows_of_block c.horizontal (length c.horizontal) start mid → AreNumbered rows_of_block c.vertical (length c.vertical) mid xs → AreRowComponents a c xs
+row_components a c start mid xs are long filled x y = record {
+  long = y.long ∙ x.long ∙ long;
+  horizontal = λ i r lt h. y.others r (λ j lt2 k. rows_apart a r (of_horizontal i r lt h) (of_vertical j r lt2 k)) ∙ x.here i r lt h;
+  vertical = y.here;
+  square = λ r s. neither_numbered rows_of_block c.horizontal c.vertical start mid xs r x y (λ i lt h. s.1 (of_horizontal i r lt h)) (λ i lt h. s.2 (of_vertical i r lt h)) ∙ filled r s.0;
 }
   where
     of_horizontal : (i r : ℕ) → i < length c.horizontal → Among r (block_at c.horizontal i).rows → IsHorizontalVertex a (RowAt r)
@@ -151,6 +145,15 @@ component_numbers a c no_rows mid_rows rows no_columns mid_columns columns are l
     of_vertical : (i r : ℕ) → i < length c.vertical → Among r (block_at c.vertical i).rows → IsVerticalVertex a (RowAt r)
     of_vertical i r lt h = row_inside a (IsVerticalVertex a) least_row c.vertical i r are.vertical lt h
 
+pub column_components : (a : Matrix) (c : Components) (start mid xs : List ℕ) → AreConnectedComponents a c → length start ≡ cols a → ((d : ℕ) → d < cols a → get_or start d 0 ≡ none)
+    → AreNumbered cols_of_block c.horizontal (length c.horizontal) start mid → AreNumbered cols_of_block c.vertical (length c.vertical) mid xs → AreColumnComponents a c xs
+column_components a c start mid xs are long filled x y = record {
+  long = y.long ∙ x.long ∙ long;
+  horizontal = λ i d lt h. y.others d (λ j lt2 k. cols_apart a d (on_horizontal i d lt h) (on_vertical j d lt2 k)) ∙ x.here i d lt h;
+  vertical = y.here;
+  square = λ d s. neither_numbered cols_of_block c.horizontal c.vertical start mid xs d x y (λ i lt h. s.1 (on_horizontal i d lt h)) (λ i lt h. s.2 (on_vertical i d lt h)) ∙ filled d s.0;
+}
+  where
     on_horizontal : (i d : ℕ) → i < length c.horizontal → Among d (block_at c.horizontal i).cols → IsHorizontalVertex a (ColAt d)
     on_horizontal i d lt h = col_inside a (IsHorizontalVertex a) least_col c.horizontal i d are.horizontal lt h
 

@@ -1,6 +1,6 @@
 -- Orders with entries all along the diagonal.
-use Rattle.std.proofs.Common.{◌≡◌, ◌≢◌, ◌⊎◌, ◌∙◌, ℕ, zero, suc, ◌+◌, ◌-◌, ◌<◌, ◌≤◌, List, [], ◌∷◌, ◌++◌, length, map, set, take, get_or, refl, sym, ap, arith, subst, inl, inr, append-nil, length-append, get_or-set_same, get_or-set_other}
-use Rattle.std.proofs.lemmas.List.{get_or_append_left, get_or-append-add, length-map, map-id}
+use Rattle.std.proofs.Common.{◌≡◌, ◌≢◌, ◌⊎◌, ◌∙◌, ℕ, zero, suc, ◌+◌, ◌-◌, ◌<◌, ◌≤◌, List, [], ◌∷◌, ◌++◌, Some, length, map, set, take, get_or, refl, sym, ap, arith, subst, inl, inr, append-nil, length-append, get_or-set_same, get_or-set_other}
+use Rattle.std.proofs.lemmas.List.{get_or_append_left, get_or-append-add, length-map, map-id, nil_from_length}
 use Rattle.bip_defs.specs.Blocks.{Block, all_cols, all_rows, block_at, no_block}
 use Rattle.bip_defs.specs.Bottleneck.{IsFull}
 use Rattle.bip_defs.specs.Decomposition.{Decomposition, IsDecompositionOf}
@@ -8,22 +8,26 @@ use Rattle.bip_defs.specs.Lists.{Among, AreDistinct}
 use Rattle.bip_defs.specs.Matching.{IsMatching, IsMaximum, rows_of}
 use Rattle.bip_defs.specs.Matrix.{Matrix, Place, cols, upto}
 use Rattle.bip_defs.specs.Once.{ListsOnce}
-use Rattle.bip_defs.specs.Parts.{IsHorizontalCol, IsVerticalCol}
-use Rattle.bip_defs.proofs.Full.{all_below, has_all_cols, has_all_rows, matching_few}
+use Rattle.bip_defs.specs.Parts.{IsHorizontalCol, IsSquareCol, IsVerticalCol}
+use Rattle.bip_defs.proofs.BottleneckLemmas.{full_length}
+use Rattle.bip_defs.proofs.Full.{all_below, full_maximum, has_all_cols, has_all_rows, matching_few}
+use Rattle.bip_defs.proofs.FullMatchings.{long_full}
 use Rattle.bip_defs.proofs.Paired.{block_square, maximum_pairs}
 use Rattle.bip_defs.proofs.Queues.{distinct_at}
 use Rattle.bip_defs.proofs.Sets.{among_at, few_distinct, number_same, one_col, one_row, place_among, rising_distinct, upto_length, upto_lists, upto_rising}
-use Rattle.bip_defs.proofs.BottleneckLemmas.{full_length}
-use Rattle.bip_defs.proofs.Uniqueness.{same_rank}
+use Rattle.bip_defs.proofs.Together.{square_cols_once}
+use Rattle.bip_defs.proofs.Triangular.{cols_once}
 use Rattle.bip_graph.specs.Answers.{orders_of}
+use Rattle.bip_graph.specs.Decompositions.{decomposition_of}
+use Rattle.bip_graph.specs.Matching.{Pairing}
 use Rattle.bip_graph.specs.Orders.{rows_before}
-use Rattle.blocktri.specs.Answers.{AreBlockStarts}
-use Rattle.blocktri.specs.BlockOrders.{AreMatesOf, TellsBlockOrder}
-use Rattle.blocktri.specs.PerfectMatchings.{HasNoPerfectMatching}
-use Rattle.blocktri.proofs.LookLemmas.{few_rows}
+use Rattle.bip_graph.specs.declared.answers.Decomposition as answers
+use Rattle.blocktri.specs.Answers.{AreBlockStarts, Fills}
+use Rattle.blocktri.specs.BlockOrders.{AreMatesOf, IsPerfectOf, IsRowOrder, OrderLists, TellsBlockOrder}
+use Rattle.blocktri.specs.Compressed.{IsRoom}
 use Rattle.blocktri.proofs.WriteLemmas.{before_more, before_within, once_long}
 
--- Where there is no perfect matching.
+-- Perfect matchings.
 
 -- a perfect matching has at least as many pairs as there are rows, and as there are columns
 pub full_rows : (a : Matrix) (m : List Place) → IsFull a m → a.rows ≤ length m
@@ -33,34 +37,48 @@ full_rows a m full =
     let same = length-map m (λ (p : Place). p.0) in
     omega (arith, few, long, same)
 
--- where a maximum matching is not as long as there are rows, or these are not as many as the columns
-pub no_perfect : (a : Matrix) (m : List Place) → IsMaximum a m → (a.rows ≡ cols a → length m ≡ a.rows → ⊥) → HasNoPerfectMatching a
-no_perfect a m max short o full =
-    let rows = full_rows a o full in
-    let columns = full_length a o full in
-    let most = max.longest o full.matching in
-    let few = few_rows a m max.matching in
-    let few_columns = matching_few a o full.matching in
-    let few_o = few_rows a o full.matching in
-    short (omega (arith, rows, columns, few_o, few_columns)) (omega (arith, rows, most, few))
+-- so it is maximum
+pub full_is_maximum : (a : Matrix) (m : List Place) → IsFull a m → IsMaximum a m
+full_is_maximum a m full =
+    let columns = full_length a m full in
+    let few = matching_few a m full.matching in
+    full_maximum a m full.matching (omega (arith, columns, few))
 
--- Where there is one.
+-- of a square matrix and its decomposition
+pub perfect_full : (a : Matrix) (d : answers.Decomposition) (m : Pairing) → IsPerfectOf a d m → IsFull a m.pairs
+perfect_full a d m is =
+    let square = is.square in
+    let full = is.full in
+    long_full a m.pairs square is.maximum.maximum.matching (omega (arith, square, full))
 
-none_among : (xs : List ℕ) → ((x : ℕ) → ¬ Among x xs) → xs ≡ []
-none_among [] out = refl
-none_among (x ∷ xs) out = absurd (out x (inl refl))
+-- Where there is one, all columns are square.
 
-no_horizontal : (a : Matrix) (m : List Place) → IsMaximum a m → a.rows ≡ cols a → length m ≡ a.rows → (c : ℕ) → ¬ IsHorizontalCol a c
-no_horizontal a m max square full c h = let (lt, o, most, missed) = h in let longest = most.longest m max.matching in missed (has_all_cols a o most.matching (omega (arith, square, full, longest)) c lt)
+-- so the blocks have each column once
+pub all_cols_once : (a : Matrix) (d : Decomposition) (m : List Place) → IsDecompositionOf a d → IsFull a m → ListsOnce (λ c. c < cols a) (all_cols d.blocks)
+all_cols_once a d m is full = record {
+  distinct = once.distinct;
+  sound = λ c h. (once.sound c h).0;
+  complete = λ c lt. once.complete c (lt, not_horizontal c, not_vertical c);
+}
+  where
+    once : ListsOnce (IsSquareCol a) (all_cols d.blocks)
+    once = square_cols_once a d.blocks is.blocks
 
-no_vertical : (a : Matrix) (m : List Place) → IsMaximum a m → length m ≡ a.rows → (c : ℕ) → ¬ IsVerticalCol a c
-no_vertical a m max full c v = let (r, row, e) = v in let (lt, o, most, missed) = row in let longest = most.longest m max.matching in missed (has_all_rows a o most.matching (omega (arith, full, longest)) r lt)
+    not_horizontal : (c : ℕ) → ¬ IsHorizontalCol a c
+    not_horizontal c h = let (lt, o, most, missed) = h in let longest = most.longest m full.matching in let columns = full_length a m full in missed (has_all_cols a o most.matching (omega (arith, columns, longest)) c lt)
 
--- then the order of the columns has those of the blocks alone
-pub columns_of_blocks : (a : Matrix) (d : Decomposition) (m : List Place) → IsDecompositionOf a d → IsMaximum a m → a.rows ≡ cols a → length m ≡ a.rows → (orders_of d).1 ≡ all_cols d.blocks
-columns_of_blocks a d m is max square full =
-    let left : d.parts.horizontal_cols ≡ [] = none_among d.parts.horizontal_cols (λ c h. no_horizontal a m max square full c (is.parts.horizontal_cols.sound c h)) in
-    let right : d.parts.vertical_cols ≡ [] = none_among d.parts.vertical_cols (λ c h. no_vertical a m max full c (is.parts.vertical_cols.sound c h)) in
+    not_vertical : (c : ℕ) → ¬ IsVerticalCol a c
+    not_vertical c v = let (r, row, e) = v in let (lt, o, most, missed) = row in let longest = most.longest m full.matching in let rows = full_rows a m full in missed (has_all_rows a o most.matching (omega (arith, rows, longest)) r lt)
+
+-- and the order of the columns has those of the blocks alone
+pub columns_of_blocks : (a : Matrix) (d : Decomposition) (m : List Place) → IsDecompositionOf a d → IsFull a m → (orders_of d).1 ≡ all_cols d.blocks
+columns_of_blocks a d m is full =
+    let all = once_long (cols a) (all_cols d.blocks) (all_cols_once a d m is full) in
+    let parts = once_long (cols a) (d.parts.horizontal_cols ++ (all_cols d.blocks ++ d.parts.vertical_cols)) (cols_once a d is) in
+    let outer = length-append d.parts.horizontal_cols (all_cols d.blocks ++ d.parts.vertical_cols) in
+    let inner = length-append (all_cols d.blocks) d.parts.vertical_cols in
+    let left = nil_from_length d.parts.horizontal_cols (omega (arith, all, parts, outer, inner)) in
+    let right = nil_from_length d.parts.vertical_cols (omega (arith, all, parts, outer, inner)) in
     rw (left, right) (append-nil (all_cols d.blocks))
 
 pub before_shift : (b : Block) (bs : List Block) (i : ℕ) → rows_before (b ∷ bs) (suc i) ≡ length b.rows + rows_before bs i
@@ -101,7 +119,7 @@ distinct_if (x ∷ xs) differ = (
 )
 
 -- the mates of distinct columns are distinct
-mates_distinct : (a : Matrix) (m : List Place) (columns rows : List ℕ) → IsMatching a m → AreDistinct columns → length rows ≡ length columns → AreMatesOf m columns rows → AreDistinct rows
+pub mates_distinct : (a : Matrix) (m : List Place) (columns rows : List ℕ) → IsMatching a m → AreDistinct columns → length rows ≡ length columns → AreMatesOf m columns rows → AreDistinct rows
 mates_distinct a m columns rows matching once long mates = distinct_if rows (λ i j lt within e.
     let inside : j < length columns = omega (arith, long, within) in
     let first = mates i (omega (arith, lt, inside)) in
@@ -140,39 +158,47 @@ mates_more m columns rows n r inside on had k lt = by (number_same k n)
 pub three_same : (x y z a b c : List ℕ) → x ≡ a → y ≡ b → z ≡ c → map (λ (n : ℕ). n) x ++ map (λ (n : ℕ). n) y ++ map (λ (n : ℕ). n) z ≡ a ++ b ++ c
 three_same x y z a b c e f g = rw (map-id x, map-id y, map-id z, e, f, g) refl
 
--- What is told.
+-- The order of the rows.
 
-pub order_told : (a : Matrix) (d : Decomposition) (m : List Place) (count : ℕ) (row_order column_order old starts : List ℕ) → IsDecompositionOf a d → IsMaximum a m → a.rows ≡ cols a → length m ≡ a.rows → ListsOnce (λ c. c < cols a) column_order → column_order ≡ (orders_of d).1
-    → length row_order ≡ length column_order → AreMatesOf m column_order row_order → AreBlockStarts d.blocks old starts → count ≡ length d.blocks → TellsBlockOrder a count row_order column_order old starts
-order_told a d m count row_order column_order old starts is max square full once columns long mates are count_is = record {
-  square = square;
-  decomposition = d;
-  is_decomposition = is;
-  full = same_rank a d.rank (length m) is.rank (m, max, refl) ∙ full;
-  columns = columns;
-  rows = mates_once a m column_order row_order max.matching once.distinct (omega (arith, wide, square)) long mates;
-  diagonal = λ k lt. max.matching.entries (get_or row_order k 0) (get_or column_order k 0) (mates k (omega (arith, wide, lt)));
-  rows_of_blocks = in_blocks;
-  starts = are;
-  count_is = count_is;
+-- the mates of the columns of the blocks, in their order
+pub mates_order : (a : Matrix) (d : Decomposition) (m : List Place) (rows : List ℕ) → IsDecompositionOf a d → IsFull a m → a.rows ≡ cols a → length rows ≡ a.rows → AreMatesOf m (all_cols d.blocks) rows → IsRowOrder a d m rows
+mates_order a d m rows is full square long mates = record {
+  once = mates_once a m (all_cols d.blocks) rows full.matching once.distinct (omega (arith, wide, square)) (omega (arith, wide, square, long)) mates;
+  diagonal = subst (λ (xs : List ℕ). AreMatesOf m xs rows) (sym (columns_of_blocks a d m is full)) mates;
+  of_blocks = in_blocks;
 }
   where
-    wide : length column_order ≡ cols a
-    wide = once_long (cols a) column_order once
+    once : ListsOnce (λ c. c < cols a) (all_cols d.blocks)
+    once = all_cols_once a d m is full
+
+    wide : length (all_cols d.blocks) ≡ cols a
+    wide = once_long (cols a) (all_cols d.blocks) once
 
     same : (b : Block) → Among b d.blocks → length b.rows ≡ length b.cols
     same b h = block_square a d b is h
 
-    of_blocks : column_order ≡ all_cols d.blocks
-    of_blocks = columns ∙ columns_of_blocks a d m is max square full
-
-    in_blocks : (b k : ℕ) → b < count → rows_before d.blocks b ≤ k → k < rows_before d.blocks (b + 1) → Among (get_or row_order k 0) (block_at d.blocks b).rows
+    in_blocks : (b k : ℕ) → b < length d.blocks → rows_before d.blocks b ≤ k → k < rows_before d.blocks (b + 1) → Among (get_or rows k 0) (block_at d.blocks b).rows
     in_blocks b k lt from to =
-        let inside : b < length d.blocks = omega (arith, lt, count_is) in
-        let on = among_at d.blocks b no_block inside in
-        let column : Among (get_or column_order k 0) (block_at d.blocks b).cols = subst (λ (xs : List ℕ). Among (get_or xs k 0) (block_at d.blocks b).cols) (sym of_blocks) (column_in_block d.blocks b k same inside from to) in
-        let (r, pair, row) = (maximum_pairs a d m (block_at d.blocks b) is max on).cols (get_or column_order k 0) column in
+        let on = among_at d.blocks b no_block lt in
+        let column = column_in_block d.blocks b k same lt from to in
+        let (r, pair, row) = (maximum_pairs a d m (block_at d.blocks b) is (full_is_maximum a m full) on).cols (get_or (all_cols d.blocks) k 0) column in
         let most = before_within d.blocks (b + 1) in
         let equal = all_same d.blocks same in
-        let all = ap (λ (xs : List ℕ). length xs) of_blocks in
-        subst (λ (s : ℕ). Among s (block_at d.blocks b).rows) (one_row m max.matching.cols_differ r (get_or row_order k 0) (get_or column_order k 0) pair (mates k (omega (arith, to, most, equal, all)))) row
+        subst (λ (s : ℕ). Among s (block_at d.blocks b).rows) (one_row m full.matching.cols_differ r (get_or rows k 0) (get_or (all_cols d.blocks) k 0) pair (mates k (omega (arith, to, most, equal)))) row
+
+-- What is told.
+
+-- the orders of a square matrix, from what is written of its decomposition and its matching
+pub order_told : (a : Matrix) (d : answers.Decomposition) (m : Pairing) (old new : OrderLists) → IsPerfectOf a d m → IsRoom a.rows old.row_order → Fills old.row_order new.row_order (AreMatesOf m.pairs (all_cols d.blocks) new.row_order)
+    → Fills old.column_order new.column_order (new.column_order ≡ (orders_of (decomposition_of d)).1) → Fills old.block_starts new.block_starts (AreBlockStarts d.blocks old.block_starts new.block_starts) → TellsBlockOrder a m.pairs (Some (length d.blocks)) old new
+order_told a d m old new is room rows columns starts = record {
+  decomposition = decomposition_of d;
+  is_decomposition = is.decomposes.decomposition;
+  count_is = refl;
+  rows = record {
+    long = rows.long;
+    holds = λ some. let long = rows.long in mates_order a (decomposition_of d) m.pairs new.row_order is.decomposes.decomposition (perfect_full a d m is) is.square (omega (arith, room, some, long)) (rows.holds some);
+  };
+  columns = columns;
+  starts = starts;
+}

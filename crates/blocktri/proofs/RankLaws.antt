@@ -5,7 +5,8 @@ use Rattle.bip_defs.specs.Bottleneck.{IsFull}
 use Rattle.bip_defs.specs.Matching.{IsRank}
 use Rattle.bip_defs.specs.Matrix.{Matrix, Place, cols}
 use Rattle.bip_defs.proofs.BottleneckLemmas.{full_length}
-use Rattle.bip_defs.proofs.Full.{has_all_cols, has_all_rows, matching_few}
+use Rattle.bip_defs.proofs.Full.{matching_few}
+use Rattle.bip_defs.proofs.FullMatchings.{long_full}
 use Rattle.blocktri.specs.PerfectMatchings.{HasNoPerfectMatching, IsBelowFullRank}
 use Rattle.blocktri.proofs.DiagonalOrderLemmas.{full_rows}
 use Rattle.blocktri.proofs.LookLemmas.{few_rows}
@@ -16,11 +17,7 @@ no_perfect_below a rank (m, max, size) = (λ none. by none (ℕ_discrete a.rows 
     by : HasNoPerfectMatching a → Dec (a.rows ≡ cols a) → Dec (rank < a.rows) → IsBelowFullRank a rank
     by none (no differ) less = inl differ
     by none (yes square) (yes below) = inr below
-    by none (yes square) (no enough) = absurd (none m (record {
-      matching = max.matching;
-      all_rows = has_all_rows a m max.matching (omega (arith, enough, size));
-      all_cols = has_all_cols a m max.matching (omega (arith, enough, size, square));
-    }))
+    by none (yes square) (no enough) = absurd (none m (long_full a m square max.matching (omega (arith, enough, size, square))))
 
     back : (o : List Place) → IsFull a o → IsBelowFullRank a rank → ⊥
     back o full (inl differ) = differ (omega (arith, full_rows a o full, full_length a o full, few_rows a o full.matching, matching_few a o full.matching))

@@ -10,14 +10,13 @@ use Rattle.bip_defs.specs.Matching.{cols_of}
 use Rattle.bip_defs.specs.Matrix.{Matrix, Place, cols, upto}
 use Rattle.bip_defs.specs.Once.{ListsOnce}
 use Rattle.bip_defs.proofs.Full.{few_below}
-use Rattle.bip_defs.proofs.Sets.{col_among, few_distinct, number_same, one_row, pigeonhole, rising_distinct, upto_length, upto_lists, upto_rising}
+use Rattle.bip_defs.proofs.Sets.{col_among, few_distinct, number_same, one_row, pigeonhole, place_among, rising_distinct, upto_length, upto_lists, upto_rising}
 use Rattle.bip_defs.proofs.Square.{square_pairs_perfect}
 use Rattle.bip_defs.proofs.Uniqueness.{block_has_col, blocks_share_col, chain_square}
 use Rattle.bip_defs.proofs.Together.{more_rows}
 use Rattle.bip_graph.specs.Answers.{orders_of}
 use Rattle.bip_graph.specs.Matching.{IsPairing, Pairing, none}
 use Rattle.bip_graph.specs.Orders.{rows_before}
-use Rattle.blocktri.specs.Answers.{AreRowsOf}
 use Rattle.blocktri.specs.Written.{IsPut}
 
 -- Orders.
@@ -100,6 +99,14 @@ cols_long a d once =
     let y = length-append d.parts.horizontal_cols (all_cols d.blocks) in
     omega (arith, long, x, y)
 
+-- each block has a column
+pub block_filled : (a : Matrix) (d : Decomposition) (b : Block) → IsDecompositionOf a d → Among b d.blocks → 1 ≤ length b.cols
+block_filled a d b is on =
+    let (m, max, size) = is.rank in
+    let (c, h) = block_has_col a _ b (square_pairs_perfect a m d.parts.square_rows max is.parts.square_rows) (is.blocks.sound b on) in
+    let (k, lt, e) = place_among c 0 b.cols h in
+    omega (arith, lt)
+
 -- at most as many blocks as columns, since each has a column of its own
 pub few_blocks : (a : Matrix) (d : Decomposition) → IsDecompositionOf a d → length d.blocks ≤ cols a
 few_blocks a d is =
@@ -147,13 +154,6 @@ rows_more m xs col v inside new old r c lt = by (number_same c col)
     by : (c ≡ col) ⊎ (c ≢ col) → Among (r, c) m ↔ ((get_or (set xs col v) c 0 ≡ r) × (r ≢ none))
     by (inl e) = rw (e, get_or-set_same xs col v 0 inside) (new r)
     by (inr ne) = rw (get_or-set_other xs col c v 0 ne) (old r c (omega (arith, lt, ne)))
-
--- the last column has its row, and so each has
-pub rows_all : (m : Pairing) (xs : List ℕ) (n : ℕ) → IsPairing m → n ≡ m.cols → length xs ≡ m.cols → AreRowsBelow n m.pairs xs → AreRowsOf m.pairs xs
-rows_all m xs n pairing all long are r c = (
-  λ (h : Among (r, c) m.pairs). let within = pairing.cols_within r c h in let told = (are r c (omega (arith, within, all))).0 h in (omega (arith, within, long), told.0, told.1),
-  λ (told : (c < length xs) × (get_or xs c 0 ≡ r) × (r ≢ none)). let within = told.0 in (are r c (omega (arith, within, long, all))).1 (told.1, told.2),
-)
 
 -- what tells the row of a matched column
 pub some_row : (m : Pairing) (row col : ℕ) → m.rows < 2 ^ 32 → IsPairing m → Among (row, col) m.pairs → (r : ℕ) → Among (r, col) m.pairs ↔ ((row ≡ r) × (r ≢ none))

@@ -1,38 +1,37 @@
--- Why there is no answer of compressed columns with values.
-use Rattle.std.specs.Prelude.{ℕ, ℤ, IfErr, IfOk, List, Result}
-use Rattle.blocktri.specs.declared.refusals.Refusal.TheVariants.{Columns}
-use Rattle.blocktri.specs.Causes.{IsRefusal}
-use Rattle.blocktri.specs.Diagonals.{HasWeights}
+-- Why there is no answer of a matrix with values.
+use Rattle.std.specs.Prelude.{◌≡◌, ◌≢◌, IfErr, IfOk, Result}
+use Rattle.bip_defs.specs.Matrix.{Matrix, cols}
+use Rattle.blocktri.specs.declared.refusals.Refusal.TheVariants.{Columns, Lengths}
+use Rattle.blocktri.specs.Compressed.{AreCompressed}
 use Rattle.blocktri.specs.PerfectMatchings.{HasNoPerfectMatching}
+use Rattle.blocktri.specs.Weighted.{HasWeights, IsFirstGivenPast, WeightedLists}
 use Rattle.blocktri.specs.declared.diagonal_refusals.DiagonalRefusal.{DiagonalRefusal}
-use Rattle.blocktri.specs.declared.diagonal_refusals.DiagonalRefusal.TheVariants.{Lists, SumLimit, Singular, PriceLimit}
-use Rattle.sp_pattern.specs.Columns.{AreColumns}
-use Rattle.sp_pattern.specs.declared.columns.ColumnsError.TheVariants.{OutOfMemory}
-use Rattle.sp_pattern.specs.declared.valued_columns.ValuesError.{ValuesError}
-use Rattle.sp_pattern.specs.declared.valued_columns.ValuesError.TheVariants as values_errors
-use Rattle.sp_pattern.specs.ValuedColumns.{IsFirstIdPast}
+use Rattle.blocktri.specs.declared.diagonal_refusals.DiagonalRefusal.TheVariants.{Lists, SumLimit, NotSquare, Singular, PriceLimit}
+use Rattle.sp_pattern.specs.ColumnErrors.{IsColumnsError}
 use Rattle.sp_pattern.specs.Weights.{Weighing}
+
+-- the matrix is square, and no matching of it covers all its rows and columns
+pub record IsSquareSingular (a : Matrix) : Type 0 where
+  pub square : a.rows ≡ cols a
+  pub none : HasNoPerfectMatching a
 
 -- by the order in which they are looked for, where `Fit` is that all lengths are right, and `Large`
 -- when no fair prices fit
-abbrev pub IsDiagonalRefusal : Type 0 → (Weighing → Type 0) → ℕ → List ℕ → List ℕ → List ℤ
-    → DiagonalRefusal → Type 0
-IsDiagonalRefusal Fit Large rows starts ids values (Lists refusal) =
-    IsRefusal Fit rows starts ids refusal
-IsDiagonalRefusal Fit Large rows starts ids values (SumLimit at) =
-    Fit × AreColumns rows starts ids × IsFirstIdPast rows starts ids values at
-IsDiagonalRefusal Fit Large rows starts ids values Singular =
-    Fit × HasWeights rows starts ids values (λ w. HasNoPerfectMatching w.matrix)
-IsDiagonalRefusal Fit Large rows starts ids values PriceLimit =
-    Fit × HasWeights rows starts ids values Large
+abbrev pub IsDiagonalRefusal : Type 0 → (Weighing → Type 0) → WeightedLists → DiagonalRefusal
+    → Type 0
+IsDiagonalRefusal Fit Large m (Lists Lengths) = ¬ Fit
+IsDiagonalRefusal Fit Large m (Lists (Columns error)) =
+    Fit × IsColumnsError m.lists.others m.lists.starts m.lists.ids error
+IsDiagonalRefusal Fit Large m (SumLimit at) =
+    Fit × AreCompressed m.lists × IsFirstGivenPast m at
+IsDiagonalRefusal Fit Large m NotSquare =
+    Fit × HasWeights m (λ w. w.matrix.rows ≢ cols w.matrix)
+IsDiagonalRefusal Fit Large m Singular =
+    Fit × HasWeights m (λ w. IsSquareSingular w.matrix)
+IsDiagonalRefusal Fit Large m PriceLimit = Fit × HasWeights m Large
 
 -- a refusal has its cause, and an answer comes only where all lengths are right
-pub record RefusesDiagonalRightly {S : Type 0} (Fit : Type 0) (Large : Weighing → Type 0) (rows : ℕ)
-    (starts ids : List ℕ) (values : List ℤ) (result : Result S DiagonalRefusal) : Type 0 where
+pub record RefusesDiagonalRightly {S : Type 0} (Fit : Type 0) (Large : Weighing → Type 0)
+    (m : WeightedLists) (result : Result S DiagonalRefusal) : Type 0 where
   pub fit : IfOk result (λ s. Fit)
-  pub cause : IfErr result (IsDiagonalRefusal Fit Large rows starts ids values)
-
--- the refusal of values that give no weights
-abbrev pub of_error : ValuesError → DiagonalRefusal
-of_error (values_errors.SumLimit at) = SumLimit at
-of_error values_errors.OutOfMemory = Lists (Columns OutOfMemory)
+  pub cause : IfErr result (IsDiagonalRefusal Fit Large m)

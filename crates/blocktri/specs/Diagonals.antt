@@ -1,53 +1,49 @@
--- What is told of the diagonals of compressed columns with values.
+-- What is told of the diagonals of a matrix with values.
 use Rattle.std.specs.Int.{w64}
-use Rattle.std.specs.Prelude.{◌≡◌, ℕ, ℤ, pos, FitsSigned, ◌+◌, ◌*◌, ◌-◌, ◌^◌, ◌<◌, List, length, slice_index_or}
+use Rattle.std.specs.Prelude.{◌≡◌, ◌≢◌, ◌⊎◌, ℕ, ℤ, pos, Bool, FitsSigned, IsTrue, ◌+◌, ◌*◌, ◌^◌, ◌<◌, List, length, slice_index_or}
 use Rattle.bip_defs.specs.Bottleneck.{IsBest}
-use Rattle.bip_defs.specs.Matrix.{Place, cols}
-use Rattle.blocktri.specs.Answers.{AreRowsOf}
+use Rattle.bip_defs.specs.Matrix.{Place}
+use Rattle.blocktri.specs.Answers.{AreRowsOf, Fills}
+use Rattle.blocktri.specs.Compressed.{IsRoom, column_count, row_count}
+use Rattle.blocktri.specs.Weighted.{AreValued, WeightedLists}
 use Rattle.blocktri.specs.Written.{IsPut}
 use Rattle.blocktri.specs.declared.bottleneck_matching.LeastWeight.{LeastWeight}
 use Rattle.blocktri.specs.declared.heaviest_diagonal.Sum.{Sum}
 use Rattle.integer_diagonal.specs.Heaviest.{IsHeaviestDiagonal}
 use Rattle.integer_diagonal.specs.Prices.{AreFair}
-use Rattle.sp_pattern.specs.Columns.{AreColumns, matrix_of}
-use Rattle.sp_pattern.specs.ValuedColumns.{entries_given}
-use Rattle.sp_pattern.specs.Weights.{AreWeightsOf, Weighing, weight_at}
-
--- the weights are those of the columns' matrix, by the values
-abbrev pub AreColumnWeights : ℕ → List ℕ → List ℕ → List ℤ → Weighing → Type 0
-AreColumnWeights rows starts ids values w =
-    AreWeightsOf (entries_given rows starts ids values) (matrix_of rows starts ids) w
-
--- the lists are compressed columns with values, and P holds of their matrix with its weights
-pub record HasWeights (rows : ℕ) (starts ids : List ℕ) (values : List ℤ)
-    (P : Weighing → Type 0) : Type 0 where
-  pub columns : AreColumns rows starts ids
-  pub weighing : Weighing
-  pub weights : AreColumnWeights rows starts ids values weighing
-  pub holds : P weighing
+use Rattle.sp_pattern.specs.Weights.{Weighing, weight_at}
 
 -- the number of two words
 abbrev pub number_of : Sum → ℕ
 number_of s = s.low + 2 ^ 64 * s.high
 
--- the list has the row of each column's pair in a heaviest diagonal, with fair prices and the sum
-pub record TellsHeaviest (w : Weighing) (sum : Sum) (row_of_column : List ℕ)
-    (row_prices column_prices : List ℤ) : Type 0 where
-  pub pairs : List Place
-  pub heaviest : IsHeaviestDiagonal w pairs row_prices column_prices (pos (number_of sum))
-  pub long : length row_of_column ≡ cols w.matrix
-  pub rows : AreRowsOf pairs row_of_column
-
 -- each price fits 64 bits
 abbrev pub AreNarrow : List ℤ → Type 0
 AreNarrow prices = (i : ℕ) → i < length prices → FitsSigned w64 (slice_index_or prices i (pos 0))
 
--- a heaviest diagonal with fair prices that fit
-pub record IsNarrowDiagonal (w : Weighing) (m : List Place) (u v : List ℤ)
+-- one of the two lists of prices is wanted at least
+abbrev pub WantsPrices : List ℤ → List ℤ → Type 0
+WantsPrices row_prices column_prices = (length row_prices ≢ 0) ⊎ (length column_prices ≢ 0)
+
+-- a heaviest diagonal with fair prices and the sum: the lists that are wanted have the row of each
+-- column's pair, the prices of the rows and those of the columns, and where one of these is wanted,
+-- all prices fit 64 bits
+pub record TellsHeaviest (w : Weighing) (sum : Sum) (old_rows rows : List ℕ)
+    (old_row_prices row_prices old_column_prices column_prices : List ℤ) : Type 0 where
+  pub pairs : List Place
+  pub u : List ℤ
+  pub v : List ℤ
+  pub heaviest : IsHeaviestDiagonal w pairs u v (pos (number_of sum))
+  pub narrow : WantsPrices old_row_prices old_column_prices → AreNarrow u × AreNarrow v
+  pub rows_are : Fills old_rows rows (AreRowsOf pairs rows)
+  pub row_prices_are : Fills old_row_prices row_prices (row_prices ≡ u)
+  pub column_prices_are : Fills old_column_prices column_prices (column_prices ≡ v)
+
+-- a heaviest diagonal with fair prices, which fit where that is asked for
+pub record IsDiagonalFound (asks : Bool) (w : Weighing) (m : List Place) (u v : List ℤ)
     (sum : ℤ) : Type 0 where
   pub heaviest : IsHeaviestDiagonal w m u v sum
-  pub row_prices : AreNarrow u
-  pub column_prices : AreNarrow v
+  pub narrow : IsTrue asks → AreNarrow u × AreNarrow v
 
 -- a heaviest diagonal, none of whose fair prices all fit 64 bits
 pub record HasNoNarrowPrices (w : Weighing) : Type 0 where
@@ -58,29 +54,36 @@ pub record HasNoNarrowPrices (w : Weighing) : Type 0 where
   pub heaviest : IsHeaviestDiagonal w pairs row_prices column_prices sum
   pub none : (u v : List ℤ) → AreFair w pairs u v → AreNarrow u → AreNarrow v → ⊥
 
--- the list has the row of each column's pair in a perfect matching whose least weight is greatest,
--- and the other begins with the columns that show it; what stands farther on stays
+-- and prices are wanted
+abbrev pub HasNoWantedPrices : List ℤ → List ℤ → Weighing → Type 0
+HasNoWantedPrices row_prices column_prices w =
+    WantsPrices row_prices column_prices × HasNoNarrowPrices w
+
+-- a perfect matching whose least weight is greatest: where they are wanted, the one list has the
+-- row of each column's pair, and the other begins with the columns that show it; what stands
+-- farther on stays
 pub record TellsBottleneck (w : Weighing) (found : LeastWeight)
-    (row_of_column old_columns columns : List ℕ) : Type 0 where
+    (old_rows rows old_columns columns : List ℕ) : Type 0 where
   pub pairs : List Place
   pub hall : List ℕ
   pub best : IsBest w.matrix (weight_at w) pairs found.weight hall
-  pub long : length row_of_column ≡ cols w.matrix
-  pub rows : AreRowsOf pairs row_of_column
+  pub rows_are : Fills old_rows rows (AreRowsOf pairs rows)
   pub count : found.columns ≡ length hall
-  pub columns_are : IsPut 0 hall old_columns columns
+  pub columns_are : Fills old_columns columns (IsPut 0 hall old_columns columns)
 
--- a value for each id, and to be written a row for each column, and a price for each row and column
-pub record HaveHeaviestLengths (rows : ℕ) (starts ids : List ℕ) (values : List ℤ)
-    (row_of_column : List ℕ) (row_prices column_prices : List ℤ) : Type 0 where
-  pub values_are : length values ≡ length ids
-  pub rows_are : length row_of_column ≡ length starts - 1
-  pub row_prices_are : length row_prices ≡ rows
-  pub column_prices_are : length column_prices ≡ length starts - 1
+-- a value for each id, and where they are wanted, to be written a row for each column, and a price
+-- for each row and column
+pub record HaveHeaviestLengths (m : WeightedLists) (row_of_column : List ℕ)
+    (row_prices column_prices : List ℤ) : Type 0 where
+  pub values_are : AreValued m
+  pub rows_are : IsRoom (column_count m.lists) row_of_column
+  pub row_prices_are : IsRoom (row_count m.lists) row_prices
+  pub column_prices_are : IsRoom (column_count m.lists) column_prices
 
--- a value for each id, and to be written a row for each column, and room for each column
-pub record HaveBottleneckLengths (starts ids : List ℕ) (values : List ℤ)
+-- a value for each id, and where they are wanted, to be written a row for each column, and room for
+-- each column
+pub record HaveBottleneckLengths (m : WeightedLists)
     (row_of_column columns : List ℕ) : Type 0 where
-  pub values_are : length values ≡ length ids
-  pub rows_are : length row_of_column ≡ length starts - 1
-  pub columns_are : length columns ≡ length starts - 1
+  pub values_are : AreValued m
+  pub rows_are : IsRoom (column_count m.lists) row_of_column
+  pub columns_are : IsRoom (column_count m.lists) columns

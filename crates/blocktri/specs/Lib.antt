@@ -2,11 +2,17 @@ pub mod Agreements
 pub mod Answers
 pub mod BlockOrders
 pub mod Causes
+pub mod Compressed
+pub mod Diagonal
 pub mod DiagonalCauses
 pub mod Diagonals
+pub mod Dmperm
+pub mod Forms
+pub mod Found
 pub mod Looks
 pub mod OuterComponents
 pub mod PerfectMatchings
 pub mod RisingColumns
 pub mod RowPrices
+pub mod Weighted
 pub mod Written

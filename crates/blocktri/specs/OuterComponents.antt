@@ -1,12 +1,13 @@
 -- What is told of the connected components of the outer parts.
-use Rattle.std.specs.Prelude.{◌≡◌, ℕ, ◌<◌, List, length, slice_index}
+use Rattle.std.specs.Prelude.{◌≡◌, ℕ, ◌<◌, List, length, slice_index, Option, Some}
 use Rattle.bip_defs.specs.Blocks.{Block, block_at}
 use Rattle.bip_defs.specs.ConnectedComponents.{AreConnectedComponents, Components}
 use Rattle.bip_defs.specs.Lists.{Among}
 use Rattle.bip_defs.specs.Matrix.{Matrix, cols}
 use Rattle.bip_defs.specs.Parts.{IsSquareCol, IsSquareRow}
 use Rattle.bip_graph.specs.Matching.{none}
-use Rattle.blocktri.specs.declared.block_form.Sizes.{Sizes}
+use Rattle.blocktri.specs.Answers.{Fills}
+use Rattle.blocktri.specs.declared.sizes.ComponentCounts.{ComponentCounts}
 
 abbrev pub rows_of_block : Block → List ℕ
 rows_of_block b = b.rows
@@ -19,34 +20,36 @@ abbrev pub AreNumbersOf : (Block → List ℕ) → List Block → List ℕ → T
 AreNumbersOf members blocks xs = (i x : ℕ) → i < length blocks
     → Among x (members (block_at blocks i)) → slice_index xs x ≡ i
 
--- each row and each column of an outer part has the number of its component in that part, and one
--- of the square part what stands for none
-pub record AreComponentNumbers (a : Matrix) (c : Components) (row_component
-    column_component : List ℕ) : Type 0 where
-  pub long_rows : length row_component ≡ a.rows
-  pub long_columns : length column_component ≡ cols a
-  pub horizontal_rows : AreNumbersOf rows_of_block c.horizontal row_component
-  pub horizontal_columns : AreNumbersOf cols_of_block c.horizontal column_component
-  pub vertical_rows : AreNumbersOf rows_of_block c.vertical row_component
-  pub vertical_columns : AreNumbersOf cols_of_block c.vertical column_component
-  pub square_rows : (r : ℕ) → IsSquareRow a r → slice_index row_component r ≡ none
-  pub square_columns : (c : ℕ) → IsSquareCol a c → slice_index column_component c ≡ none
+-- each row of an outer part has the number of its component in that part, and one of the square
+-- part what stands for none
+pub record AreRowComponents (a : Matrix) (c : Components) (xs : List ℕ) : Type 0 where
+  pub long : length xs ≡ a.rows
+  pub horizontal : AreNumbersOf rows_of_block c.horizontal xs
+  pub vertical : AreNumbersOf rows_of_block c.vertical xs
+  pub square : (r : ℕ) → IsSquareRow a r → slice_index xs r ≡ none
 
--- that are the components of both outer parts, and so many of each
-pub record TellsComponents (a : Matrix) (s : Sizes) (row_component
-    column_component : List ℕ) : Type 0 where
+-- and so with the columns
+pub record AreColumnComponents (a : Matrix) (c : Components) (xs : List ℕ) : Type 0 where
+  pub long : length xs ≡ cols a
+  pub horizontal : AreNumbersOf cols_of_block c.horizontal xs
+  pub vertical : AreNumbersOf cols_of_block c.vertical xs
+  pub square : (c : ℕ) → IsSquareCol a c → slice_index xs c ≡ none
+
+-- these are the components of both outer parts, and so many of each
+pub record AreCounts (c : Components) (counts : ComponentCounts) : Type 0 where
+  pub horizontal : counts.horizontal ≡ length c.horizontal
+  pub vertical : counts.vertical ≡ length c.vertical
+
+-- the components of both outer parts: how many, and the number of each row's and each column's
+pub record TellsComponents (a : Matrix) (counts : Option ComponentCounts) (old_rows rows old_columns
+    columns : List ℕ) : Type 0 where
   pub components : Components
   pub are_components : AreConnectedComponents a components
-  pub horizontal : s.horizontal_components ≡ length components.horizontal
-  pub vertical : s.vertical_components ≡ length components.vertical
-  pub numbers : AreComponentNumbers a components row_component column_component
-
--- these are the components, so many of each part, and the lists have their numbers
-pub record HasComponents (a : Matrix) (c : Components) (s : Sizes) (row_component
-    column_component : List ℕ) : Type 0 where
-  pub horizontal : s.horizontal_components ≡ length c.horizontal
-  pub vertical : s.vertical_components ≡ length c.vertical
-  pub numbers : AreComponentNumbers a c row_component column_component
+  pub found : ComponentCounts
+  pub counts_are : counts ≡ Some found
+  pub counted : AreCounts components found
+  pub rows_are : Fills old_rows rows (AreRowComponents a components rows)
+  pub columns_are : Fills old_columns columns (AreColumnComponents a components columns)
 
 -- the first so many blocks have written their numbers to the places of the numbers that `members`
 -- gives of each; what stands elsewhere stays

@@ -1,50 +1,18 @@
 //! The block triangular form.
 
-ghost use Rattle.std.specs.Prelude.{◌≡◌, ◌<◌, ◌^◌, IfOk, IfSome, OnErr, length};
-ghost use Rattle.bip_defs.specs.ConnectedComponents.{AreConnectedComponents};
-ghost use Rattle.bip_defs.specs.Matrix.{Matrix};
-ghost use Rattle.bip_graph.specs.Decompositions.{Decomposes, components_of, decomposition_of};
-ghost use Rattle.bip_graph.specs.Matching.{IsMaximumOf};
-ghost use Rattle.bip_graph.specs.OuterMarks.{AreOuterMarks};
-ghost use Rattle.blocktri.specs.Answers.{AreSizesOf, HasMatrix, HaveFormLengths, Tells};
+ghost use Rattle.std.specs.Prelude.{◌≡◌, ◌↔◌, IfOk, IsTrue, OnErr};
 ghost use Rattle.blocktri.specs.Causes.{RefusesRightly};
-ghost use Rattle.blocktri.specs.OuterComponents.{TellsComponents};
-ghost use Rattle.sp_pattern.specs.Columns.{AreColumns, matrix_of};
+ghost use Rattle.blocktri.specs.Compressed.{HasMatrix};
+ghost use Rattle.blocktri.specs.Forms.{HaveFormRoom, TellsForm, form_lists};
 
-use crate::component_numbers::write_components;
-use crate::maximum::matched;
-use crate::orders::{lengths_add_up, write_block_starts, write_column_order, write_row_order};
+use crate::compressed::{Compressed, is_room, is_room_and_one};
+use crate::find_sizes::sizes_of;
+use crate::found::find;
 use crate::refusals::Refusal;
-use bip_graph::{Components, Decomposition, Matching, OuterMarks};
-use dm_coarse::{coarse_by_marks, coarse_in_turn, components};
-use dm_fine::fine;
-use sp_ids::OutOfMemory;
-use sp_pattern::{NumberList, Pattern, check_columns};
+use crate::sizes::{Sizes, Wants};
+use crate::wanted_lists::{write_outer, write_shape};
+use sp_pattern::NumberList;
 use std::alloc::Global;
-
-/// The sizes of a block triangular form.
-#[repr(C)]
-#[derive(Clone, Copy, Debug, PartialEq, Eq)]
-pub struct Sizes {
-    /// The structural rank.
-    pub rank: u32,
-    /// The rows of the horizontal part.
-    pub horizontal_rows: u32,
-    /// The columns of the horizontal part.
-    pub horizontal_columns: u32,
-    /// The rows of the square part, and its columns.
-    pub square: u32,
-    /// The rows of the vertical part.
-    pub vertical_rows: u32,
-    /// The columns of the vertical part.
-    pub vertical_columns: u32,
-    /// The fine blocks of the square part.
-    pub blocks: u32,
-    /// The connected components of the horizontal part.
-    pub horizontal_components: u32,
-    /// The connected components of the vertical part.
-    pub vertical_components: u32,
-}
 
 /// The Dulmage-Mendelsohn decomposition of a matrix with the fine blocks of its square part, as
 /// orders of the rows and the columns in which the matrix is block upper triangular, and with the
@@ -61,121 +29,67 @@ pub struct Sizes {
 /// vertical part in the order of their least rows.
 ///
 /// `row_order` and `row_component` must have a place for each row, `column_order` and
-/// `column_component` for each column, `block_starts` for each column and one more; these lengths
-/// are looked at first. After an `Err` nothing was written.
+/// `column_component` for each column, `block_starts` for each column and one more. A list of
+/// length 0 is not wanted. These lengths are looked at first. What `wants` leaves out is not looked
+/// for: its lists stay as they are, and its number in the sizes is `None`. After an `Err` nothing
+/// was written.
 ///
-/// Answers `OutOfMemory` as [`crate::rank`] does, and where the tables of the parts, the blocks or
-/// the components can't be had. Work: as `rank`, what `dm_coarse::coarse_in_turn`, `dm_fine::fine`
-/// and `dm_coarse::components` say of theirs, and three writes for each row and column.
+/// Returns `OutOfMemory` where [`crate::rank`] does, and if it cannot allocate the tables of the
+/// parts, the blocks or the components. Work: as `rank`, what `dm_coarse::coarse_in_turn`,
+/// `dm_fine::fine` and `dm_coarse::components` say of theirs, and a write for each place of a list.
 pub fn decomposition<N: NumberList>(
     alloc: Global,
-    rows: u64,
-    starts: N,
-    ids: N,
+    matrix: &Compressed<N>,
+    wants: Wants,
     row_order: &mut [u32],
     column_order: &mut [u32],
     block_starts: &mut [u32],
     row_component: &mut [u32],
     column_component: &mut [u32],
 ) -> Result<Sizes, Refusal>
-    ensures found { IfOk result (λ s. HasMatrix rows (N.numbers starts) (N.numbers ids)
-        (λ a. Tells a s row_order.new column_order.new block_starts.old block_starts.new)) }
-    ensures components { IfOk result (λ s. HasMatrix rows (N.numbers starts) (N.numbers ids)
-        (λ a. TellsComponents a s row_component.new column_component.new)) }
-    ensures refused { RefusesRightly (HaveFormLengths rows (N.numbers starts) row_order.old
-        column_order.old block_starts.old row_component.old column_component.old)
-        rows (N.numbers starts) (N.numbers ids) result }
-    ensures kept { OnErr result ((row_order.new ≡ row_order.old)
-        × (column_order.new ≡ column_order.old) × (block_starts.new ≡ block_starts.old)
-        × (row_component.new ≡ row_component.old) × (column_component.new ≡ column_component.old)) }
+    ensures found { IfOk result (λ s. HasMatrix matrix.now (λ a. TellsForm a wants s
+        (form_lists row_order.old column_order.old block_starts.old row_component.old
+        column_component.old) (form_lists row_order.new column_order.new block_starts.new
+        row_component.new column_component.new))) }
+    ensures refused { RefusesRightly (HaveFormRoom matrix.now (form_lists row_order.old
+        column_order.old block_starts.old row_component.old column_component.old))
+        matrix.now result }
+    ensures kept { OnErr result (form_lists row_order.new column_order.new block_starts.new
+        row_component.new column_component.new ≡ form_lists row_order.old column_order.old
+        block_starts.old row_component.old column_component.old) }
 {
-    let cols = starts.len().saturating_sub(1);
-    if row_order.len() as u64 != rows
-        || column_order.len() != cols
-        || block_starts.len() != starts.len()
-        || row_component.len() as u64 != rows
-        || column_component.len() != cols
-    {
+    if !has_room(
+        matrix,
+        row_order,
+        column_order,
+        block_starts,
+        row_component,
+        column_component,
+    ) {
         return Err(Refusal::Lengths);
     }
-    check_columns(rows, starts, ids)?;
-    let (found, outer) = decompose(alloc, rows as u32, starts, ids)?;
-    write_row_order(&found, row_order);
-    write_column_order(&found, column_order);
-    write_block_starts(&found, block_starts);
-    write_components(&outer, row_component, column_component);
-    Ok(sizes_of(&found, &outer))
+    matrix.check()?;
+    let found = find(alloc, matrix, wants)?;
+    write_shape(&found.shape, row_order, column_order, block_starts);
+    write_outer(&found.outer, row_component, column_component);
+    Ok(sizes_of(&found))
 }
 
-// The decomposition, and the components of the outer parts.
-fn decompose<N: NumberList>(
-    alloc: Global,
-    rows: u32,
-    starts: N,
-    ids: N,
-) -> Result<(Decomposition, Components), OutOfMemory>
-    requires { AreColumns rows (N.numbers starts) (N.numbers ids) }
-    ensures decomposition { IfOk result
-        (λ p. Decomposes (matrix_of rows (N.numbers starts) (N.numbers ids)) p.0) }
-    ensures components { IfOk result (λ p. AreConnectedComponents
-        (matrix_of rows (N.numbers starts) (N.numbers ids)) (components_of p.1)) }
-    ensures few_horizontal { IfOk result (λ p. length p.1.horizontal < 2 ^ 32) }
-    ensures few_vertical { IfOk result (λ p. length p.1.vertical < 2 ^ 32) }
+// Whether all lists have room for what is to be written.
+fn has_room<N: NumberList>(
+    matrix: &Compressed<N>,
+    row_order: &[u32],
+    column_order: &[u32],
+    block_starts: &[u32],
+    row_component: &[u32],
+    column_component: &[u32],
+) -> bool
+    ensures { IsTrue result ↔ HaveFormRoom matrix.now (form_lists row_order.now column_order.now
+        block_starts.now row_component.now column_component.now) }
 {
-    let (pattern, matching, marks) = matched(alloc, rows, starts, ids)?;
-    let found = decomposed(alloc, &pattern, &matching, marks)?;
-    let outer = components(alloc, &pattern, &found.parts)?;
-    Ok((found, outer))
-}
-
-/// The decomposition, from a maximum matching, by what the last phase has marked, where that is
-/// known.
-pub fn decomposed(
-    alloc: Global,
-    pattern: &Pattern,
-    matching: &Matching,
-    marks: Option<OuterMarks>,
-) -> Result<Decomposition, OutOfMemory>
-    requires maximum { IsMaximumOf pattern.now matching.now }
-    requires marks { IfSome marks (AreOuterMarks pattern.now) }
-    ensures { IfOk result (Decomposes pattern.now) }
-{
-    let parts = match marks {
-        Some(marks) => coarse_by_marks(alloc, pattern, matching, &marks)?,
-        None => coarse_in_turn(alloc, pattern, matching)?,
-    };
-    let blocks = fine(alloc, pattern, matching, &parts)?;
-    Ok(Decomposition {
-        m: pattern.rows(),
-        n: pattern.cols(),
-        e: pattern.entries(),
-        rank: matching.size(),
-        parts,
-        blocks,
-    })
-}
-
-// The sizes of a decomposition, and of its components.
-fn sizes_of(found: &Decomposition, outer: &Components) -> Sizes
-    requires some { (a : Matrix) × Decomposes a found.now }
-    requires few_rows { found.now.m < 2 ^ 32 }
-    requires few_columns { found.now.n < 2 ^ 32 }
-    requires few_horizontal { length outer.now.horizontal < 2 ^ 32 }
-    requires few_vertical { length outer.now.vertical < 2 ^ 32 }
-    ensures form { AreSizesOf (decomposition_of found.now) result }
-    ensures horizontal { result.horizontal_components ≡ length outer.now.horizontal }
-    ensures vertical { result.vertical_components ≡ length outer.now.vertical }
-{
-    lengths_add_up(found);
-    Sizes {
-        rank: found.rank,
-        horizontal_rows: found.parts.hr.len() as u32,
-        horizontal_columns: found.parts.hc.len() as u32,
-        square: found.blocks.all_rows().len() as u32,
-        vertical_rows: found.parts.vr.len() as u32,
-        vertical_columns: found.parts.vc.len() as u32,
-        blocks: found.blocks.len() as u32,
-        horizontal_components: outer.horizontal.len() as u32,
-        vertical_components: outer.vertical.len() as u32,
-    }
+    is_room(row_order, matrix.rows())
+        && is_room(column_order, matrix.columns())
+        && is_room_and_one(block_starts, matrix.columns())
+        && is_room(row_component, matrix.rows())
+        && is_room(column_component, matrix.columns())
 }

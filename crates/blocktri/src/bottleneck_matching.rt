@@ -1,16 +1,17 @@
 //! The bottleneck of a matrix with values.
 
-ghost use Rattle.std.specs.Prelude.{◌≡◌, IfErr, IfOk, OnErr, length};
-ghost use Rattle.blocktri.specs.Diagonals.{HasWeights, HaveBottleneckLengths, TellsBottleneck};
-ghost use Rattle.blocktri.specs.DiagonalCauses.{IsDiagonalRefusal, RefusesDiagonalRightly};
+ghost use Rattle.std.specs.Prelude.{◌≡◌, ◌↔◌, IfErr, IfOk, IsTrue, OnErr};
 ghost use Rattle.bip_defs.specs.Bottleneck.{IsBest};
+ghost use Rattle.blocktri.specs.DiagonalCauses.{IsDiagonalRefusal, RefusesDiagonalRightly};
+ghost use Rattle.blocktri.specs.Diagonals.{HaveBottleneckLengths, TellsBottleneck};
+ghost use Rattle.blocktri.specs.Weighted.{AreValued, HasWeights};
 ghost use Rattle.sp_pattern.specs.Weights.{weight_at};
 
+use crate::compressed::is_room;
 use crate::diagonal_refusals::{DiagonalRefusal, NO_MEMORY};
 use crate::refusals::Refusal;
-use crate::row_of_column::write_pairs;
-use crate::weighted_columns::WeightedColumns;
-use crate::write::write_at;
+use crate::weighted::Weighted;
+use crate::write_diagonal::{write_columns, write_rows};
 use bip_graph::Bottleneck;
 use bottleneck::best;
 use sp_ids::{Col, Row};
@@ -39,59 +40,71 @@ struct BestMatching {
 ///
 /// Those columns stand at the first places of `shown_by`, rising; what stands farther on stays.
 /// There must be a value for each id, and `row_of_column` and `shown_by` must have a place for each
-/// column; these lengths are looked at first. `SumLimit` exactly where the sum of some place's
-/// values passes the limit, `Singular` exactly where the matrix has no perfect matching,
-/// `PriceLimit` never. Answers `OutOfMemory` as `sp_pattern::Pattern::of_columns`,
-/// `sp_pattern::Weights::of_columns` and `bottleneck::best` do. Work: as these three.
+/// column, or each of them none where it is not wanted; these lengths are looked at first. How many
+/// columns show it is told in any case. Then the matrix is checked as [`Compressed::check`] does.
+/// `SumLimit` exactly where the sum of some place's values passes the limit, `NotSquare` exactly
+/// where there are not as many rows as columns, `Singular` exactly where there are and the matrix
+/// has no perfect matching, `PriceLimit` never.
+///
+/// Answers `OutOfMemory` as `sp_pattern::Pattern::of_columns`, `sp_pattern::Weights::of_columns` and
+/// `bottleneck::best` do; by rows, as `sp_pattern::Pattern::of_checked_rows` and
+/// `sp_pattern::Weights::build` in place of the first two, with 16 bytes an id besides. Work: as
+/// these.
+///
+/// [`Compressed::check`]: crate::Compressed::check
 pub fn bottleneck<N: NumberList>(
     alloc: Global,
-    columns: &WeightedColumns<'_, N>,
+    matrix: &Weighted<'_, N>,
     row_of_column: &mut [u32],
     shown_by: &mut [u32],
 ) -> Result<LeastWeight, DiagonalRefusal>
-    ensures found { IfOk result (λ l. HasWeights columns.now.rows (N.numbers columns.now.starts)
-        (N.numbers columns.now.ids) columns.now.values.now
-        (λ w. TellsBottleneck w l row_of_column.new shown_by.old shown_by.new)) }
+    ensures found { IfOk result (λ l. HasWeights matrix.now
+        (λ w. TellsBottleneck w l row_of_column.old row_of_column.new shown_by.old shown_by.new)) }
     ensures refused { RefusesDiagonalRightly
-        (HaveBottleneckLengths (N.numbers columns.now.starts) (N.numbers columns.now.ids)
-        columns.now.values.now row_of_column.old shown_by.old) (λ w. ⊥) columns.now.rows
-        (N.numbers columns.now.starts) (N.numbers columns.now.ids) columns.now.values.now result }
+        (HaveBottleneckLengths matrix.now row_of_column.old shown_by.old) (λ w. ⊥) matrix.now
+        result }
     ensures kept { OnErr result ((row_of_column.new ≡ row_of_column.old)
         × (shown_by.new ≡ shown_by.old)) }
 {
-    let cols = columns.starts.len().saturating_sub(1);
-    if columns.values.len() != columns.ids.len()
-        || row_of_column.len() != cols
-        || shown_by.len() != cols
-    {
+    if !have_lengths(matrix, row_of_column, shown_by) {
         return Err(DiagonalRefusal::Lists(Refusal::Lengths));
     }
-    let found = best_matching(alloc, columns)?;
-    write_pairs(found.pairs.as_slice(), row_of_column);
-    write_at(shown_by, 0, found.hall.as_slice());
+    let found = best_matching(alloc, matrix)?;
+    write_rows(found.pairs.as_slice(), row_of_column);
+    write_columns(found.hall.as_slice(), shown_by);
     Ok(LeastWeight {
         weight: found.least,
         columns: found.hall.len() as u32,
     })
 }
 
+// Whether all lengths are right.
+fn have_lengths<N: NumberList>(
+    matrix: &Weighted<'_, N>,
+    row_of_column: &[u32],
+    shown_by: &[u32],
+) -> bool
+    ensures { IsTrue result ↔ HaveBottleneckLengths matrix.now row_of_column.now shown_by.now }
+{
+    let columns = matrix.matrix.columns();
+    matrix.is_valued() && is_room(row_of_column, columns) && is_room(shown_by, columns)
+}
+
 // A perfect matching whose least weight is greatest, and the columns that show it.
 fn best_matching<N: NumberList>(
     alloc: Global,
-    columns: &WeightedColumns<'_, N>,
+    matrix: &Weighted<'_, N>,
 ) -> Result<BestMatching, DiagonalRefusal>
-    requires values { length columns.now.values.now ≡ length (N.numbers columns.now.ids) }
-    ensures found { IfOk result (λ d. HasWeights columns.now.rows (N.numbers columns.now.starts)
-        (N.numbers columns.now.ids) columns.now.values.now
+    requires values { AreValued matrix.now }
+    ensures found { IfOk result (λ d. HasWeights matrix.now
         (λ w. IsBest w.matrix (weight_at w) d.pairs.items d.least d.hall.items)) }
-    ensures refused { IfErr result (IsDiagonalRefusal (Unit {0}) (λ w. ⊥) columns.now.rows
-        (N.numbers columns.now.starts) (N.numbers columns.now.ids) columns.now.values.now) }
+    ensures refused { IfErr result (IsDiagonalRefusal (Unit {0}) (λ w. ⊥) matrix.now) }
 {
-    let pattern = columns.pattern(alloc)?;
-    let weights = columns.weights(alloc, &pattern)?;
+    let pattern = matrix.pattern(alloc)?;
+    let weights = matrix.weights(alloc, &pattern)?;
     match best(alloc, &pattern, &weights) {
         Ok(Bottleneck::Best { pairs, least, hall }) => Ok(BestMatching { pairs, least, hall }),
-        Ok(Bottleneck::Rectangular) => Err(DiagonalRefusal::Singular),
+        Ok(Bottleneck::Rectangular) => Err(DiagonalRefusal::NotSquare),
         Ok(Bottleneck::Singular { .. }) => Err(DiagonalRefusal::Singular),
         Err(_) => Err(NO_MEMORY),
     }

@@ -6,11 +6,12 @@ ghost use Rattle.bip_defs.specs.Matching.{IsRank};
 ghost use Rattle.bip_defs.specs.Matrix.{HasPlaces, Matrix, Place};
 ghost use Rattle.bip_graph.specs.Answers.{IsAnalysis};
 ghost use Rattle.blocktri.specs.Agreements.{ComponentsAgree, EachComponentsAre, EachFormIsOf, EachLeastMatchingIs, EachRankIs, LeastMatchingsAgree, OrdersAgree, SizesAgree};
-ghost use Rattle.blocktri.specs.BlockOrders.{IsUpperByBlocks, TellsBlockOrder};
+ghost use Rattle.bip_defs.specs.Decomposition.{Decomposition};
+ghost use Rattle.bip_graph.specs.Answers.{orders_of};
+ghost use Rattle.blocktri.specs.BlockOrders.{IsSquareOrder, IsUpperByBlocks};
 ghost use Rattle.blocktri.specs.PerfectMatchings.{HasNoPerfectMatching, IsBelowFullRank};
 ghost use Rattle.sp_pattern.specs.Columns.{AreColumns, matrix_of, places_of};
 
-use bip_graph::orders_are_block_upper_triangular;
 use sp_pattern::columns_give_their_places;
 
 /// What the calls answer of compressed columns is what `btf` answers of a file with the same
@@ -48,8 +49,8 @@ pub fn answers_are_those_of_a_report()
 {}
 
 /// A matrix has no perfect matching exactly where it is not square or its rank is less than its
-/// size. So the calls that answer so ([`crate::block_order`] by `None`, [`crate::heaviest`] and
-/// [`crate::bottleneck`] by `Singular`) do it exactly there.
+/// size. So the calls that answer so ([`crate::block_order`], [`crate::heaviest`] and
+/// [`crate::bottleneck`] by `NotSquare` or `Singular`) do it exactly there.
 pub fn no_perfect_matching_is_below_full_rank()
     ensures { (a : Matrix) (rank : ℕ) → IsRank a rank
         → HasNoPerfectMatching a ↔ IsBelowFullRank a rank }
@@ -59,13 +60,12 @@ pub fn no_perfect_matching_is_below_full_rank()
 /// in a later block than its column. The first block starts at 0, and behind the last one stands
 /// the number of rows.
 pub fn block_orders_are_block_upper_triangular()
-    ensures upper { (a : Matrix) (count : ℕ) (rows columns old starts : List ℕ)
-        → TellsBlockOrder a count rows columns old starts
-        → IsUpperByBlocks a count rows columns starts }
-    ensures first { (a : Matrix) (count : ℕ) (rows columns old starts : List ℕ)
-        → TellsBlockOrder a count rows columns old starts → slice_index starts 0 ≡ 0 }
-    ensures last { (a : Matrix) (count : ℕ) (rows columns old starts : List ℕ)
-        → TellsBlockOrder a count rows columns old starts → slice_index starts count ≡ a.rows }
-{
-    orders_are_block_upper_triangular();
-}
+    ensures upper { (a : Matrix) (d : Decomposition) (pairs : List Place) (rows old starts : List ℕ)
+        → IsSquareOrder a d pairs rows old starts
+        → IsUpperByBlocks a (length d.blocks) rows (orders_of d).1 starts }
+    ensures first { (a : Matrix) (d : Decomposition) (pairs : List Place) (rows old starts : List ℕ)
+        → IsSquareOrder a d pairs rows old starts → slice_index starts 0 ≡ 0 }
+    ensures last { (a : Matrix) (d : Decomposition) (pairs : List Place) (rows old starts : List ℕ)
+        → IsSquareOrder a d pairs rows old starts
+        → slice_index starts (length d.blocks) ≡ a.rows }
+{}

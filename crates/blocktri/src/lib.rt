@@ -1,7 +1,7 @@
-//! The structural analysis of matrices that a caller has in memory as compressed columns: for each
-//! column where its row numbers begin in one flat list. Row numbers are counted from 0, stand in
-//! any order within their column, and may stand there several times. Nothing of the lists is
-//! trusted.
+//! The structural analysis of matrices that a caller has in memory as compressed columns or rows:
+//! for each column where its row numbers begin in one flat list, or for each row where its column
+//! numbers begin. Numbers are counted from 0, stand in any order within their column or row, and may
+//! stand there several times. Nothing of the lists is trusted.
 //!
 //! No call starts a thread. What the calls answer of a matrix is what the program `btf` answers of
 //! a file with the same places: [`answers_are_those_of_a_file`], [`answers_are_those_of_a_report`].
@@ -10,33 +10,46 @@
 mod block_form;
 mod bottleneck_matching;
 mod component_numbers;
+mod compressed;
 mod diagonal_order;
 mod diagonal_refusals;
+mod dm_permutations;
+mod find_sizes;
 mod first_look;
+mod found;
+mod full_diagonal;
 mod heaviest_diagonal;
 mod laws;
+mod matchings;
+mod mates;
 mod maximum;
 mod narrow_prices;
 mod orders;
+mod permuted;
 mod refusals;
 mod rising_columns;
-mod row_of_column;
 mod row_prices;
+mod sizes;
 mod structural_rank;
-mod weighted_columns;
+mod wanted_lists;
+mod weighted;
 mod write;
+mod write_diagonal;
 
-pub use block_form::{Sizes, decomposition};
+pub use block_form::decomposition;
 pub use bottleneck_matching::{LeastWeight, bottleneck};
-pub use diagonal_order::block_order;
+pub use compressed::Compressed;
+pub use diagonal_order::{SquareOrder, block_order};
 pub use diagonal_refusals::DiagonalRefusal;
+pub use dm_permutations::dmperm;
 pub use heaviest_diagonal::{Sum, heaviest};
 pub use laws::{
     answers_are_those_of_a_file, answers_are_those_of_a_report,
     block_orders_are_block_upper_triangular, no_perfect_matching_is_below_full_rank,
 };
+pub use matchings::matching;
 pub use refusals::Refusal;
-pub use row_of_column::matching;
+pub use sizes::{ComponentCounts, Sizes, Wants};
 pub use sp_pattern::{ColumnsError, Narrow, NumberList, Wide};
 pub use structural_rank::rank;
-pub use weighted_columns::WeightedColumns;
+pub use weighted::Weighted;

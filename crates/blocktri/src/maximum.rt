@@ -1,14 +1,17 @@
-//! Maximum matchings of compressed columns.
+//! Maximum matchings of compressed columns and rows.
 
 ghost use Rattle.std.specs.Prelude.{◌≡◌, IfOk, IfSome};
 ghost use Rattle.bip_defs.specs.Marks.{Marks};
 ghost use Rattle.bip_defs.specs.Parts.{IsHorizontalRow};
 ghost use Rattle.bip_graph.specs.Matching.{IsMatchingOf, IsMaximumOf};
 ghost use Rattle.bip_graph.specs.OuterMarks.{AreOuterMarks};
+ghost use Rattle.blocktri.specs.Compressed.{AreCompressed, listed, matrix_given};
+ghost use Rattle.blocktri.specs.Diagonal.{KeepsDiagonal};
 ghost use Rattle.blocktri.specs.Looks.{IsLook};
-ghost use Rattle.sp_pattern.specs.Columns.{AreColumns, matrix_of};
 
+use crate::compressed::Compressed;
 use crate::first_look::{Look, first_look};
+use crate::full_diagonal::full_diagonal;
 use crate::rising_columns::{RisingColumns, are_rising};
 use bip_graph::{Matching, Opposite, OuterMarks, matchings_of_the_transpose};
 use breadth_first_match::{complete_from_with_marks, complete_with_marks};
@@ -18,17 +21,17 @@ use sp_ids::OutOfMemory;
 use sp_pattern::{FromRows, NumberList, Pattern, Side};
 use std::alloc::Global;
 
-/// A maximum matching. Where the first look finds one, no column is copied, and where searches from
-/// rising columns go on to the end, no pattern is made.
+/// A maximum matching of the matrix whose compressed columns the lists are. Where the first look
+/// finds one, no column is copied, and where searches from rising columns go on to the end, no
+/// pattern is made.
 pub fn maximum_matching<N: NumberList>(
     alloc: Global,
-    rows: u32,
-    starts: N,
-    ids: N,
+    matrix: &Compressed<N>,
 ) -> Result<Matching, OutOfMemory>
-    requires { AreColumns rows (N.numbers starts) (N.numbers ids) }
-    ensures { IfOk result (IsMaximumOf (matrix_of rows (N.numbers starts) (N.numbers ids))) }
+    requires { AreCompressed matrix.now }
+    ensures { IfOk result (IsMaximumOf (listed matrix.now)) }
 {
+    let (rows, starts, ids) = (matrix.others as u32, matrix.starts, matrix.ids);
     match first_look(alloc, rows, starts, ids)? {
         Look::Maximum(matching) => Ok(matching),
         Look::FromColumns(matching, unmatched) => {
@@ -38,42 +41,41 @@ pub fn maximum_matching<N: NumberList>(
                     return Ok(found);
                 }
                 drop(columns);
-                let pattern = Pattern::of_checked_columns(alloc, rows, starts, ids)?;
+                let pattern = matrix.listed(alloc)?;
                 let (found, _marks) = search_anew(alloc, &pattern)?;
                 return Ok(found);
             }
-            let pattern = Pattern::of_checked_columns(alloc, rows, starts, ids)?;
+            let pattern = matrix.listed(alloc)?;
             let look = Look::FromColumns(matching, unmatched);
             let (found, _marks) = searched(alloc, &pattern, look)?;
             Ok(found)
         }
         Look::FromRows(matching, unmatched) => {
-            let pattern = Pattern::of_checked_columns(alloc, rows, starts, ids)?;
+            let pattern = matrix.listed(alloc)?;
             let (found, _marks) = searched(alloc, &pattern, Look::FromRows(matching, unmatched))?;
             Ok(found)
         }
     }
 }
 
-/// The pattern, a maximum matching, and what the last phase has marked, unless the first look or a
-/// first phase alone has found it.
+/// The pattern, a maximum matching that keeps a full diagonal, and what the last phase has marked,
+/// unless the diagonal, the first look or a first phase alone has found it.
 pub fn matched<N: NumberList>(
     alloc: Global,
-    rows: u32,
-    starts: N,
-    ids: N,
+    matrix: &Compressed<N>,
 ) -> Result<(Pattern, Matching, Option<OuterMarks>), OutOfMemory>
-    requires { AreColumns rows (N.numbers starts) (N.numbers ids) }
-    ensures pattern { IfOk result
-        (λ p. p.0 ≡ matrix_of rows (N.numbers starts) (N.numbers ids)) }
-    ensures maximum { IfOk result
-        (λ p. IsMaximumOf (matrix_of rows (N.numbers starts) (N.numbers ids)) p.1) }
-    ensures marks { IfOk result (λ p. IfSome p.2
-        (AreOuterMarks (matrix_of rows (N.numbers starts) (N.numbers ids)))) }
+    requires { AreCompressed matrix.now }
+    ensures pattern { IfOk result (λ p. p.0 ≡ matrix_given matrix.now) }
+    ensures maximum { IfOk result (λ p. IsMaximumOf (matrix_given matrix.now) p.1) }
+    ensures diagonal { IfOk result (λ p. KeepsDiagonal (matrix_given matrix.now) p.1.pairs) }
+    ensures marks { IfOk result
+        (λ p. IfSome p.2 (AreOuterMarks (matrix_given matrix.now))) }
 {
-    let pattern = Pattern::of_checked_columns(alloc, rows, starts, ids)?;
-    let look = first_look(alloc, rows, starts, ids)?;
-    let (matching, marks) = searched(alloc, &pattern, look)?;
+    let pattern = matrix.pattern(alloc)?;
+    if let Some(matching) = full_diagonal(alloc, matrix)? {
+        return Ok((pattern, matching, None));
+    }
+    let (matching, marks) = looked_for(alloc, matrix, &pattern)?;
     Ok((pattern, matching, marks))
 }
 
@@ -82,24 +84,40 @@ pub fn matched<N: NumberList>(
 /// fewer exchanges lead from it to the least one than where the phases begin at the first look.
 pub fn matched_for_the_least<N: NumberList>(
     alloc: Global,
-    rows: u32,
-    starts: N,
-    ids: N,
+    matrix: &Compressed<N>,
 ) -> Result<(Pattern, Matching), OutOfMemory>
-    requires { AreColumns rows (N.numbers starts) (N.numbers ids) }
-    ensures pattern { IfOk result
-        (λ p. p.0 ≡ matrix_of rows (N.numbers starts) (N.numbers ids)) }
-    ensures maximum { IfOk result
-        (λ p. IsMaximumOf (matrix_of rows (N.numbers starts) (N.numbers ids)) p.1) }
+    requires { AreCompressed matrix.now }
+    ensures pattern { IfOk result (λ p. p.0 ≡ matrix_given matrix.now) }
+    ensures maximum { IfOk result (λ p. IsMaximumOf (matrix_given matrix.now) p.1) }
 {
-    let pattern = Pattern::of_checked_columns(alloc, rows, starts, ids)?;
-    match first_look(alloc, rows, starts, ids)? {
-        Look::Maximum(matching) => Ok((pattern, matching)),
-        Look::FromColumns(_, _) | Look::FromRows(_, _) => {
-            let (matching, _marks) = search_anew(alloc, &pattern)?;
-            Ok((pattern, matching))
+    let pattern = matrix.pattern(alloc)?;
+    if !matrix.by_rows {
+        let look = first_look(alloc, matrix.others as u32, matrix.starts, matrix.ids)?;
+        if let Look::Maximum(matching) = look {
+            return Ok((pattern, matching));
         }
     }
+    let (matching, _marks) = search_anew(alloc, &pattern)?;
+    Ok((pattern, matching))
+}
+
+// A maximum matching, from the first look at the columns; of compressed rows, which cannot be looked
+// at column by column, from the start of Karp and Sipser.
+fn looked_for<N: NumberList>(
+    alloc: Global,
+    matrix: &Compressed<N>,
+    pattern: &Pattern,
+) -> Result<(Matching, Option<OuterMarks>), OutOfMemory>
+    requires compressed { AreCompressed matrix.now }
+    requires pattern { pattern.now ≡ matrix_given matrix.now }
+    ensures maximum { IfOk result (λ p. IsMaximumOf pattern.now p.0) }
+    ensures marks { IfOk result (λ p. IfSome p.1 (AreOuterMarks pattern.now)) }
+{
+    if matrix.by_rows {
+        return search_anew(alloc, pattern);
+    }
+    let look = first_look(alloc, matrix.others as u32, matrix.starts, matrix.ids)?;
+    searched(alloc, pattern, look)
 }
 
 // A maximum matching, from what a look at the columns found, or from the start of Karp and Sipser

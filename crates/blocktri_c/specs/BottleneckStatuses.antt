@@ -1,7 +1,8 @@
 -- What a call on the bottleneck leaves, by its status.
 use Rattle.std.specs.Prelude.{◌≡◌, ◌≢◌, ℕ, ℤ, List, pos}
 use Rattle.blocktri.specs.DiagonalCauses.{IsDiagonalRefusal}
-use Rattle.blocktri.specs.Diagonals.{HasWeights, HaveBottleneckLengths, TellsBottleneck}
+use Rattle.blocktri.specs.Diagonals.{HaveBottleneckLengths, TellsBottleneck}
+use Rattle.blocktri.specs.Weighted.{HasWeights, WeightedLists}
 use Rattle.blocktri_c.specs.DiagonalStatuses.{RefusesDiagonal}
 
 -- the lists that the pairs and the columns are written to, the least weight, and how many columns
@@ -20,25 +21,23 @@ bottleneck_lists row_of_column least columns columns_count = record {
   columns_count = columns_count;
 }
 
--- each list is as long as the matrix asks
-abbrev pub HasRoomForColumns : List ℕ → List ℕ → List ℤ → BottleneckLists → Type 0
-HasRoomForColumns starts ids values l =
-    HaveBottleneckLengths starts ids values l.row_of_column l.columns
+-- each list is as long as the matrix asks, or is not wanted
+abbrev pub HasRoomForColumns : WeightedLists → BottleneckLists → Type 0
+HasRoomForColumns m l = HaveBottleneckLengths m l.row_of_column l.columns
 
 -- at status 0 the answer stands in the lists; at any other all is as it was
-pub record AnswersBottleneck (status : ℤ) (rows : ℕ) (starts ids : List ℕ) (values : List ℤ)
+pub record AnswersBottleneck (status : ℤ) (m : WeightedLists)
     (old new : BottleneckLists) : Type 0 where
-  pub found : status ≡ pos 0 → HasWeights rows starts ids values
+  pub found : status ≡ pos 0 → HasWeights m
       (λ w. TellsBottleneck w (record { weight = new.least; columns = new.columns_count })
-      new.row_of_column old.columns new.columns)
-  pub fit : status ≡ pos 0 → HasRoomForColumns starts ids values old
+      old.row_of_column new.row_of_column old.columns new.columns)
+  pub fit : status ≡ pos 0 → HasRoomForColumns m old
   pub kept : status ≢ pos 0 → (new.row_of_column ≡ old.row_of_column) × (new.least ≡ old.least)
       × (new.columns ≡ old.columns) × (new.columns_count ≡ old.columns_count)
 
 -- at a refusal the status and the place of the fault tell its cause
-pub record TellsBottleneckFault (status : ℤ) (rows : ℕ) (starts ids : List ℕ) (values : List ℤ)
-    (lists : BottleneckLists) (old new : ℕ) : Type 0 where
+pub record TellsBottleneckFault (status : ℤ) (m : WeightedLists) (lists : BottleneckLists)
+    (old new : ℕ) : Type 0 where
   pub no_fault : status ≡ pos 0 → new ≡ old
   pub refused : status ≢ pos 0
-      → RefusesDiagonal (IsDiagonalRefusal (HasRoomForColumns starts ids values lists)
-      (λ w. ⊥) rows starts ids values) status old new
+      → RefusesDiagonal (IsDiagonalRefusal (HasRoomForColumns m lists) (λ w. ⊥) m) status old new

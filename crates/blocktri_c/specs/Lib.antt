@@ -1,6 +1,9 @@
 pub mod BottleneckStatuses
 pub mod DiagonalStatuses
+pub mod DmpermStatuses
+pub mod FormSizes
 pub mod FormStatuses
 pub mod HeaviestStatuses
+pub mod MatchingStatuses
 pub mod OrderStatuses
 pub mod Statuses

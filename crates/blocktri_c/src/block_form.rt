@@ -1,43 +1,48 @@
 //! The block triangular form, and the connected components of its outer parts.
 
-ghost use Rattle.blocktri_c.specs.FormStatuses.{AnswersForm, TellsFault, form_lists};
+ghost use Rattle.blocktri.specs.Forms.{HaveFormRoom, form_lists};
+ghost use Rattle.blocktri_c.specs.FormStatuses.{AnswersForm, wants_of};
+ghost use Rattle.blocktri_c.specs.Statuses.{TellsFault, lists_of};
 
+use crate::compressed_lists::{narrow, wide};
+use crate::form_sizes::{FormSizes, form_sizes, wants};
 use crate::statuses::{OK, status};
-use blocktri::{Narrow, Sizes, Wide};
 use std::alloc::Global;
 
-/// `blocktri::decomposition` of numbers of 32 bits. What `row_order`, `column_order`,
-/// `block_starts`, `row_component` and `column_component` get stands there; the sizes are written
-/// to `sizes`.
+/// `blocktri::decomposition` of numbers of 32 bits. What the five lists get stands there; the
+/// sizes are written to `sizes`.
 #[unsafe(no_mangle)]
-pub extern "C" fn blocktri_decomposition(
+pub extern "C" fn proved_decomposition(
     alloc: Global,
-    rows: u32,
+    others: u32,
     starts: &[u32],
     ids: &[u32],
+    by_rows: bool,
+    wants_blocks: bool,
+    wants_components: bool,
     row_order: &mut [u32],
     column_order: &mut [u32],
     block_starts: &mut [u32],
     row_component: &mut [u32],
     column_component: &mut [u32],
-    sizes: &mut Sizes,
+    sizes: &mut FormSizes,
     fault: &mut u64,
 ) -> i32
-    ensures answers { AnswersForm result rows starts.now ids.now
+    ensures answers { AnswersForm result (lists_of others starts.now ids.now by_rows)
+        (wants_of wants_blocks wants_components)
         (form_lists row_order.old column_order.old block_starts.old row_component.old
         column_component.old)
         (form_lists row_order.new column_order.new block_starts.new row_component.new
         column_component.new) sizes.old sizes.new }
-    ensures fault { TellsFault result rows starts.now ids.now
+    ensures fault { TellsFault result (HaveFormRoom (lists_of others starts.now ids.now by_rows)
         (form_lists row_order.old column_order.old block_starts.old row_component.old
-        column_component.old) fault.old fault.new }
+        column_component.old)) (lists_of others starts.now ids.now by_rows)
+        fault.old fault.new }
 {
-    let (starts, ids) = (Narrow { list: starts }, Narrow { list: ids });
     match blocktri::decomposition(
         alloc,
-        rows as u64,
-        starts,
-        ids,
+        &narrow(others, starts, ids, by_rows),
+        wants(wants_blocks, wants_components),
         row_order,
         column_order,
         block_starts,
@@ -45,45 +50,47 @@ pub extern "C" fn blocktri_decomposition(
         column_component,
     ) {
         Ok(found) => {
-            *sizes = found;
+            *sizes = form_sizes(found);
             OK
         }
         Err(refusal) => status(refusal, fault),
     }
 }
 
-/// `blocktri::decomposition` of numbers of 64 bits. What `row_order`, `column_order`,
-/// `block_starts`, `row_component` and `column_component` get stands there; the sizes are written
-/// to `sizes`.
+/// `blocktri::decomposition` of numbers of 64 bits. What the five lists get stands there; the
+/// sizes are written to `sizes`.
 #[unsafe(no_mangle)]
-pub extern "C" fn blocktri_decomposition_64(
+pub extern "C" fn proved_decomposition_64(
     alloc: Global,
-    rows: u64,
+    others: u64,
     starts: &[u64],
     ids: &[u64],
+    by_rows: bool,
+    wants_blocks: bool,
+    wants_components: bool,
     row_order: &mut [u32],
     column_order: &mut [u32],
     block_starts: &mut [u32],
     row_component: &mut [u32],
     column_component: &mut [u32],
-    sizes: &mut Sizes,
+    sizes: &mut FormSizes,
     fault: &mut u64,
 ) -> i32
-    ensures answers { AnswersForm result rows starts.now ids.now
+    ensures answers { AnswersForm result (lists_of others starts.now ids.now by_rows)
+        (wants_of wants_blocks wants_components)
         (form_lists row_order.old column_order.old block_starts.old row_component.old
         column_component.old)
         (form_lists row_order.new column_order.new block_starts.new row_component.new
         column_component.new) sizes.old sizes.new }
-    ensures fault { TellsFault result rows starts.now ids.now
+    ensures fault { TellsFault result (HaveFormRoom (lists_of others starts.now ids.now by_rows)
         (form_lists row_order.old column_order.old block_starts.old row_component.old
-        column_component.old) fault.old fault.new }
+        column_component.old)) (lists_of others starts.now ids.now by_rows)
+        fault.old fault.new }
 {
-    let (starts, ids) = (Wide { list: starts }, Wide { list: ids });
     match blocktri::decomposition(
         alloc,
-        rows,
-        starts,
-        ids,
+        &wide(others, starts, ids, by_rows),
+        wants(wants_blocks, wants_components),
         row_order,
         column_order,
         block_starts,
@@ -91,7 +98,7 @@ pub extern "C" fn blocktri_decomposition_64(
         column_component,
     ) {
         Ok(found) => {
-            *sizes = found;
+            *sizes = form_sizes(found);
             OK
         }
         Err(refusal) => status(refusal, fault),

@@ -18,6 +18,7 @@ pub fn diagonal_status(refusal: DiagonalRefusal, fault: &mut u64) -> i32
             *fault = at as u64;
             4
         }
+        DiagonalRefusal::NotSquare => 2,
         DiagonalRefusal::Singular => SINGULAR,
         DiagonalRefusal::PriceLimit => 24,
     }

@@ -1,39 +1,37 @@
 //! Maximum matchings.
 
-ghost use Rattle.std.specs.Prelude.{◌≡◌, ◌≢◌, pos};
-ghost use Rattle.blocktri.specs.Answers.{HasLength, HasMatrix, TellsMatching};
-ghost use Rattle.blocktri.specs.Causes.{IsRefusal};
-ghost use Rattle.blocktri_c.specs.Statuses.{Refuses};
+ghost use Rattle.blocktri_c.specs.MatchingStatuses.{AnswersMatching, HasRoomForMates, mates_lists};
+ghost use Rattle.blocktri_c.specs.Statuses.{TellsFault, lists_of};
 
+use crate::compressed_lists::{narrow, wide};
 use crate::statuses::{OK, status};
-use blocktri::{Narrow, Wide};
 use std::alloc::Global;
 
-/// `blocktri::matching` of numbers of 32 bits. For each column its row is written to
-/// `row_of_column`, or 4,294,967,295 where it has none, and the number of pairs to `size`.
+/// `blocktri::matching` of numbers of 32 bits. What `row_of_column` and `column_of_row` get
+/// stands there; the number of pairs is written to `size`.
 #[unsafe(no_mangle)]
-pub extern "C" fn blocktri_matching(
+pub extern "C" fn proved_matching(
     alloc: Global,
-    rows: u32,
+    others: u32,
     starts: &[u32],
     ids: &[u32],
+    by_rows: bool,
     is_least: bool,
     row_of_column: &mut [u32],
+    column_of_row: &mut [u32],
     size: &mut u32,
     fault: &mut u64,
 ) -> i32
-    ensures found { result ≡ pos 0 → HasMatrix rows starts.now ids.now
-        (λ a. TellsMatching a is_least size.new row_of_column.new) }
-    ensures fit { result ≡ pos 0 → HasLength starts.now row_of_column.old }
-    ensures no_fault { result ≡ pos 0 → fault.new ≡ fault.old }
-    ensures kept { result ≢ pos 0
-        → (row_of_column.new ≡ row_of_column.old) × (size.new ≡ size.old) }
-    ensures refused { result ≢ pos 0
-        → Refuses (IsRefusal (HasLength starts.now row_of_column.old) rows starts.now ids.now)
-        result fault.old fault.new }
+    ensures answers { AnswersMatching result (lists_of others starts.now ids.now by_rows) is_least
+        (mates_lists row_of_column.old column_of_row.old size.old)
+        (mates_lists row_of_column.new column_of_row.new size.new) }
+    ensures fault { TellsFault result
+        (HasRoomForMates (lists_of others starts.now ids.now by_rows)
+        (mates_lists row_of_column.old column_of_row.old size.old))
+        (lists_of others starts.now ids.now by_rows) fault.old fault.new }
 {
-    let (starts, ids) = (Narrow { list: starts }, Narrow { list: ids });
-    match blocktri::matching(alloc, rows as u64, starts, ids, is_least, row_of_column) {
+    let matrix = narrow(others, starts, ids, by_rows);
+    match blocktri::matching(alloc, &matrix, is_least, row_of_column, column_of_row) {
         Ok(found) => {
             *size = found;
             OK
@@ -42,31 +40,31 @@ pub extern "C" fn blocktri_matching(
     }
 }
 
-/// `blocktri::matching` of numbers of 64 bits. For each column its row is written to
-/// `row_of_column`, or 4,294,967,295 where it has none, and the number of pairs to `size`.
+/// `blocktri::matching` of numbers of 64 bits. What `row_of_column` and `column_of_row` get
+/// stands there; the number of pairs is written to `size`.
 #[unsafe(no_mangle)]
-pub extern "C" fn blocktri_matching_64(
+pub extern "C" fn proved_matching_64(
     alloc: Global,
-    rows: u64,
+    others: u64,
     starts: &[u64],
     ids: &[u64],
+    by_rows: bool,
     is_least: bool,
     row_of_column: &mut [u32],
+    column_of_row: &mut [u32],
     size: &mut u32,
     fault: &mut u64,
 ) -> i32
-    ensures found { result ≡ pos 0 → HasMatrix rows starts.now ids.now
-        (λ a. TellsMatching a is_least size.new row_of_column.new) }
-    ensures fit { result ≡ pos 0 → HasLength starts.now row_of_column.old }
-    ensures no_fault { result ≡ pos 0 → fault.new ≡ fault.old }
-    ensures kept { result ≢ pos 0
-        → (row_of_column.new ≡ row_of_column.old) × (size.new ≡ size.old) }
-    ensures refused { result ≢ pos 0
-        → Refuses (IsRefusal (HasLength starts.now row_of_column.old) rows starts.now ids.now)
-        result fault.old fault.new }
+    ensures answers { AnswersMatching result (lists_of others starts.now ids.now by_rows) is_least
+        (mates_lists row_of_column.old column_of_row.old size.old)
+        (mates_lists row_of_column.new column_of_row.new size.new) }
+    ensures fault { TellsFault result
+        (HasRoomForMates (lists_of others starts.now ids.now by_rows)
+        (mates_lists row_of_column.old column_of_row.old size.old))
+        (lists_of others starts.now ids.now by_rows) fault.old fault.new }
 {
-    let (starts, ids) = (Wide { list: starts }, Wide { list: ids });
-    match blocktri::matching(alloc, rows, starts, ids, is_least, row_of_column) {
+    let matrix = wide(others, starts, ids, by_rows);
+    match blocktri::matching(alloc, &matrix, is_least, row_of_column, column_of_row) {
         Ok(found) => {
             *size = found;
             OK

@@ -2,33 +2,32 @@
 
 ghost use Rattle.std.specs.Prelude.{◌≡◌, ◌≢◌, pos};
 ghost use Rattle.bip_defs.specs.Matching.{IsRank};
-ghost use Rattle.blocktri.specs.Answers.{HasMatrix};
-ghost use Rattle.blocktri.specs.Causes.{IsRefusal};
-ghost use Rattle.blocktri_c.specs.Statuses.{Refuses};
+ghost use Rattle.blocktri.specs.Compressed.{HasMatrix};
+ghost use Rattle.blocktri_c.specs.Statuses.{TellsFault, lists_of};
 
+use crate::compressed_lists::{narrow, wide};
 use crate::statuses::{OK, status};
-use blocktri::{Narrow, Refusal, Wide};
+use blocktri::Refusal;
 use std::alloc::Global;
 
 /// `blocktri::rank` of numbers of 32 bits. The rank is written to `rank`.
 #[unsafe(no_mangle)]
-pub extern "C" fn blocktri_rank(
+pub extern "C" fn proved_rank(
     alloc: Global,
-    rows: u32,
+    others: u32,
     starts: &[u32],
     ids: &[u32],
+    by_rows: bool,
     rank: &mut u32,
     fault: &mut u64,
 ) -> i32
     ensures rank { result ≡ pos 0
-        → HasMatrix rows starts.now ids.now (λ a. IsRank a rank.new) }
-    ensures no_fault { result ≡ pos 0 → fault.new ≡ fault.old }
+        → HasMatrix (lists_of others starts.now ids.now by_rows) (λ a. IsRank a rank.new) }
     ensures kept { result ≢ pos 0 → rank.new ≡ rank.old }
-    ensures refused { result ≢ pos 0 → Refuses (IsRefusal (Unit {0}) rows starts.now ids.now)
-        result fault.old fault.new }
+    ensures fault { TellsFault result (Unit {0}) (lists_of others starts.now ids.now by_rows)
+        fault.old fault.new }
 {
-    let (starts, ids) = (Narrow { list: starts }, Narrow { list: ids });
-    match blocktri::rank(alloc, rows as u64, starts, ids) {
+    match blocktri::rank(alloc, &narrow(others, starts, ids, by_rows)) {
         Ok(found) => {
             *rank = found;
             OK
@@ -39,23 +38,22 @@ pub extern "C" fn blocktri_rank(
 
 /// `blocktri::rank` of numbers of 64 bits. The rank is written to `rank`.
 #[unsafe(no_mangle)]
-pub extern "C" fn blocktri_rank_64(
+pub extern "C" fn proved_rank_64(
     alloc: Global,
-    rows: u64,
+    others: u64,
     starts: &[u64],
     ids: &[u64],
+    by_rows: bool,
     rank: &mut u32,
     fault: &mut u64,
 ) -> i32
     ensures rank { result ≡ pos 0
-        → HasMatrix rows starts.now ids.now (λ a. IsRank a rank.new) }
-    ensures no_fault { result ≡ pos 0 → fault.new ≡ fault.old }
+        → HasMatrix (lists_of others starts.now ids.now by_rows) (λ a. IsRank a rank.new) }
     ensures kept { result ≢ pos 0 → rank.new ≡ rank.old }
-    ensures refused { result ≢ pos 0 → Refuses (IsRefusal (Unit {0}) rows starts.now ids.now)
-        result fault.old fault.new }
+    ensures fault { TellsFault result (Unit {0}) (lists_of others starts.now ids.now by_rows)
+        fault.old fault.new }
 {
-    let (starts, ids) = (Wide { list: starts }, Wide { list: ids });
-    match blocktri::rank(alloc, rows, starts, ids) {
+    match blocktri::rank(alloc, &wide(others, starts, ids, by_rows)) {
         Ok(found) => {
             *rank = found;
             OK

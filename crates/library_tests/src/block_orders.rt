@@ -1,96 +1,100 @@
 //! Orders with entries all along the diagonal.
 
+use crate::lists::OrderLists;
 use crate::matrices::{CYCLE, EMPTY, MATRICES, TRIANGLE, Worked};
-use crate::small::{is_unwritten, unwritten};
-use blocktri::{Narrow, Refusal, block_order};
+use crate::small::{CHOICES, Given, Wanted};
+use blocktri::SquareOrder;
 use std::alloc::Global;
-use std::test::Fail;
 
-// What is answered of a matrix of the table, and the lists that were to be written.
-#[derive(Drop)]
-struct Orders {
-    found: Result<Option<u32>, Refusal>,
-    row_order: Vec<u32>,
-    column_order: Vec<u32>,
-    block_starts: Vec<u32>,
+/// Whether the answer and the lists are those of the table, with one of the matchings. Of a matrix
+/// that is not square or not of full rank nothing is written.
+fn has_order(
+    alloc: Global,
+    worked: &Worked<'_>,
+    by_rows: bool,
+    wants_blocks: bool,
+    wanted: Wanted,
+) -> bool {
+    let mut lists = OrderLists::of(worked, wanted);
+    let found = lists.write(alloc, &Given::of(worked, by_rows).narrow(), wants_blocks);
+    found == Ok(answer_of(worked, wants_blocks)) && has_lists(worked, &lists, wants_blocks)
 }
 
-fn orders_of(alloc: Global, worked: &Worked<'_>) -> Result<Orders, Fail> {
-    let mut row_order = unwritten(alloc, worked.row_order.len())?;
-    let mut column_order = unwritten(alloc, worked.column_order.len())?;
-    let mut block_starts = unwritten(alloc, worked.block_starts.len())?;
-    let found = block_order(
-        alloc,
-        worked.rows as u64,
-        Narrow {
-            list: worked.starts,
-        },
-        Narrow { list: worked.ids },
-        row_order.as_mut_slice(),
-        column_order.as_mut_slice(),
-        block_starts.as_mut_slice(),
-    );
-    Ok(Orders {
-        found,
-        row_order,
-        column_order,
-        block_starts,
-    })
+fn answer_of(worked: &Worked<'_>, wants_blocks: bool) -> SquareOrder {
+    match worked.order {
+        SquareOrder::Full(_) if !wants_blocks => SquareOrder::Full(None),
+        order => order,
+    }
 }
 
-// Whether the columns and the blocks are those of the block triangular form.
-fn has_blocks(worked: &Worked<'_>, orders: &Orders) -> bool {
-    orders.found == Ok(Some(worked.sizes.blocks))
-        && orders.column_order.as_slice() == worked.column_order
-        && orders.block_starts.as_slice() == worked.block_starts
+fn has_lists(worked: &Worked<'_>, lists: &OrderLists, wants_blocks: bool) -> bool {
+    match worked.order {
+        SquareOrder::Full(_) => {
+            for pairs in worked.matchings {
+                if lists.have(pairs, worked.block_starts, wants_blocks) {
+                    return true;
+                }
+            }
+            false
+        }
+        _ => lists.are_left(),
+    }
 }
 
-// Whether they are, and the rows are in this order.
-fn has_order(alloc: Global, worked: &Worked<'_>, rows: &[u32]) -> Result<bool, Fail> {
-    let orders = orders_of(alloc, worked)?;
-    Ok(has_blocks(worked, &orders) && orders.row_order.as_slice() == rows)
+/// The same of all lists, of each alone, and of none, with and without blocks.
+fn has_each_wanted(alloc: Global, worked: &Worked<'_>, by_rows: bool) -> bool {
+    for wanted in &CHOICES {
+        if !has_order(alloc, worked, by_rows, true, *wanted)
+            || !has_order(alloc, worked, by_rows, false, *wanted)
+        {
+            return false;
+        }
+    }
+    true
+}
+
+/// The same as compressed columns and as compressed rows.
+fn has_answers(alloc: Global, worked: &Worked<'_>) -> bool {
+    has_each_wanted(alloc, worked, false) && has_each_wanted(alloc, worked, true)
 }
 
 // The diagonal is the one perfect matching.
 #[test]
-fn triangle(rt: HostRuntime) -> Result<(), Fail> {
-    assert!(rt; has_order(rt.alloc(), &TRIANGLE, &[2, 1, 0])?);
-    Ok(())
+fn triangle(rt: HostRuntime) {
+    assert!(rt; TRIANGLE.order == SquareOrder::Full(Some(3)));
+    assert!(rt; has_answers(rt.alloc(), &TRIANGLE));
 }
 
 // The empty matching is perfect.
 #[test]
-fn no_rows_and_no_columns(rt: HostRuntime) -> Result<(), Fail> {
-    assert!(rt; has_order(rt.alloc(), &EMPTY, &[])?);
-    Ok(())
+fn no_rows_and_no_columns(rt: HostRuntime) {
+    assert!(rt; EMPTY.order == SquareOrder::Full(Some(0)));
+    assert!(rt; has_answers(rt.alloc(), &EMPTY));
 }
 
-// There are two perfect matchings: the diagonal, and the entries beside it.
+// There are two perfect matchings: the diagonal, which is kept, and the entries beside it.
 #[test]
-fn cycle(rt: HostRuntime) -> Result<(), Fail> {
-    let on_diagonal = has_order(rt.alloc(), &CYCLE, &[0, 1, 2])?;
-    assert!(rt; on_diagonal || has_order(rt.alloc(), &CYCLE, &[2, 0, 1])?);
-    Ok(())
+fn cycle(rt: HostRuntime) {
+    assert!(rt; CYCLE.order == SquareOrder::Full(Some(1)));
+    assert!(rt; has_answers(rt.alloc(), &CYCLE));
 }
 
-// Whether there is no order, and nothing is written then.
-fn has_none(alloc: Global, worked: &Worked<'_>) -> Result<bool, Fail> {
-    let orders = orders_of(alloc, worked)?;
-    Ok(
-        orders.found == Ok(None)
-            && is_unwritten(orders.row_order.as_slice())
-            && is_unwritten(orders.column_order.as_slice())
-            && is_unwritten(orders.block_starts.as_slice()),
-    )
+// Whether there is no order.
+fn has_none(worked: &Worked<'_>) -> bool {
+    match worked.order {
+        SquareOrder::Full(_) => false,
+        SquareOrder::Singular(rank) => worked.rows == worked.columns && rank < worked.rows,
+        SquareOrder::NotSquare => worked.rows != worked.columns,
+    }
 }
 
 // The other matrices of the table are not square, or their rank is less than their size.
 #[test]
-fn no_perfect_matching(rt: HostRuntime) -> Result<(), Fail> {
+fn no_perfect_matching(rt: HostRuntime) {
     for worked in &MATRICES {
-        if worked.sizes.square != worked.rows {
-            assert!(rt; has_none(rt.alloc(), worked)?, "{}", worked.name);
+        if worked.sizes.square != worked.rows || worked.sizes.square != worked.columns {
+            assert!(rt; has_none(worked), "{}", worked.name);
         }
+        assert!(rt; has_answers(rt.alloc(), worked), "{}", worked.name);
     }
-    Ok(())
 }

@@ -1,5 +1,5 @@
-//! Tests of the library over compressed columns, on matrices that were worked out by hand. There is
-//! nothing here for other crates.
+//! Tests of the library over compressed columns and rows, on matrices that were worked out by hand.
+//! There is nothing here for other crates.
 #![tactic(auto)]
 
 #[cfg(test)]
@@ -7,7 +7,15 @@ mod block_forms;
 #[cfg(test)]
 mod block_orders;
 #[cfg(test)]
+mod diagonals;
+#[cfg(test)]
+mod lengths;
+#[cfg(test)]
+mod lists;
+#[cfg(test)]
 mod matrices;
+#[cfg(test)]
+mod permutations;
 #[cfg(test)]
 mod refusals;
 #[cfg(test)]

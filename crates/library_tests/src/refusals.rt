@@ -1,213 +1,243 @@
-//! Lists that the calls on patterns refuse. Nothing is written then.
+//! Lists that the calls on patterns refuse, as compressed columns and as compressed rows. Nothing
+//! is written then.
 
-use crate::small::{FormLists, Lengths, is_unwritten, unwritten};
-use blocktri::{ColumnsError, Narrow, NumberList, Refusal, Wide, block_order, matching, rank};
+use crate::block_forms::WANTS;
+use crate::lists::{DmpermLists, FormLists, MateLists, OrderLists};
+use crate::small::Given;
+use blocktri::{ColumnsError, Compressed, Narrow, NumberList, Refusal, Wide, rank};
 use std::alloc::Global;
-use std::test::Fail;
+
+/// How long the lists that are to be written are: those with a place for each row and each column,
+/// the block starts, and the cuts.
+#[derive(Clone, Copy)]
+struct Room {
+    rows: usize,
+    columns: usize,
+    starts: usize,
+    cuts: usize,
+}
+
+/// Room for so many rows and columns.
+fn room_for(rows: usize, columns: usize) -> Room {
+    Room {
+        rows,
+        columns,
+        starts: columns.saturating_add(1),
+        cuts: rows.min(columns).saturating_add(2),
+    }
+}
+
+/// Room for what so many lists of so many others are.
+fn room_of(others: usize, starts: usize, by_rows: bool) -> Room {
+    let lists = starts.saturating_sub(1);
+    if by_rows {
+        room_for(lists, others)
+    } else {
+        room_for(others, lists)
+    }
+}
+
+fn matching_is_refused<N: NumberList>(
+    alloc: Global,
+    matrix: &Compressed<N>,
+    room: Room,
+    is_least: bool,
+    refusal: Refusal,
+) -> bool {
+    let mut lists = MateLists::new([room.columns, room.rows]);
+    let found = lists.write(alloc, matrix, is_least);
+    found == Err(refusal) && lists.are_left()
+}
 
 fn form_is_refused<N: NumberList>(
     alloc: Global,
-    rows: u32,
-    starts: N,
-    ids: N,
-    lengths: Lengths,
+    matrix: &Compressed<N>,
+    room: Room,
     refusal: Refusal,
-) -> Result<bool, Fail> {
-    let mut lists = FormLists::new(alloc, lengths)?;
-    let form = lists.write(alloc, rows, starts, ids);
-    Ok(form == Err(refusal) && lists.are_unwritten())
+) -> bool {
+    let (rows, columns) = (room.rows, room.columns);
+    for wants in &WANTS {
+        let mut lists = FormLists::new([rows, columns, room.starts, rows, columns]);
+        let form = lists.write(alloc, matrix, *wants);
+        if form != Err(refusal) || !lists.are_left() {
+            return false;
+        }
+    }
+    true
+}
+
+fn permutations_are_refused<N: NumberList>(
+    alloc: Global,
+    matrix: &Compressed<N>,
+    room: Room,
+    refusal: Refusal,
+) -> bool {
+    let (rows, columns, cuts) = (room.rows, room.columns, room.cuts);
+    for wants in &WANTS {
+        let mut lists = DmpermLists::new([rows, columns, cuts, cuts, columns, rows, columns]);
+        let form = lists.write(alloc, matrix, *wants);
+        if form != Err(refusal) || !lists.are_left() {
+            return false;
+        }
+    }
+    true
 }
 
 fn order_is_refused<N: NumberList>(
     alloc: Global,
-    rows: u32,
-    starts: N,
-    ids: N,
-    lists: Lengths,
+    matrix: &Compressed<N>,
+    room: Room,
+    wants_blocks: bool,
     refusal: Refusal,
-) -> Result<bool, Fail> {
-    let mut row_order = unwritten(alloc, lists.rows)?;
-    let mut column_order = unwritten(alloc, lists.columns)?;
-    let mut block_starts = unwritten(alloc, lists.starts)?;
-    let order = block_order(
-        alloc,
-        rows as u64,
-        starts,
-        ids,
-        row_order.as_mut_slice(),
-        column_order.as_mut_slice(),
-        block_starts.as_mut_slice(),
-    );
-    Ok(
-        order == Err(refusal)
-            && is_unwritten(row_order.as_slice())
-            && is_unwritten(column_order.as_slice())
-            && is_unwritten(block_starts.as_slice()),
-    )
+) -> bool {
+    let mut lists = OrderLists::new([room.rows, room.columns, room.starts, room.columns]);
+    let order = lists.write(alloc, matrix, wants_blocks);
+    order == Err(refusal) && lists.are_left()
 }
 
 // Whether each call refuses these lists for this reason.
 fn are_refused<N: NumberList>(
     alloc: Global,
-    rows: u32,
-    starts: N,
-    ids: N,
+    matrix: &Compressed<N>,
+    room: Room,
     error: ColumnsError,
-) -> Result<bool, Fail> {
-    Ok(
-        rank(alloc, rows as u64, starts, ids) == Err(error)
-            && matchings_are_refused(alloc, rows as u64, starts, ids, error)?
-            && forms_are_refused(alloc, rows, starts, ids, error)?,
-    )
-}
-
-fn matchings_are_refused<N: NumberList>(
-    alloc: Global,
-    rows: u64,
-    starts: N,
-    ids: N,
-    error: ColumnsError,
-) -> Result<bool, Fail> {
-    let refusal = Err(Refusal::Columns(error));
-    let mut mates = unwritten(alloc, starts.len().saturating_sub(1))?;
-    let any = matching(alloc, rows, starts, ids, false, mates.as_mut_slice());
-    let least = matching(alloc, rows, starts, ids, true, mates.as_mut_slice());
-    Ok(any == refusal && least == refusal && is_unwritten(mates.as_slice()))
-}
-
-fn forms_are_refused<N: NumberList>(
-    alloc: Global,
-    rows: u32,
-    starts: N,
-    ids: N,
-    error: ColumnsError,
-) -> Result<bool, Fail> {
-    let columns = starts.len().saturating_sub(1);
-    let lists = Lengths {
-        rows: rows as usize,
-        columns,
-        starts: starts.len(),
-        components: (rows as usize, columns),
-    };
+) -> bool {
     let refusal = Refusal::Columns(error);
-    Ok(
-        form_is_refused(alloc, rows, starts, ids, lists, refusal)?
-            && order_is_refused(alloc, rows, starts, ids, lists, refusal)?,
-    )
+    rank(alloc, matrix) == Err(error)
+        && matching_is_refused(alloc, matrix, room, false, refusal)
+        && matching_is_refused(alloc, matrix, room, true, refusal)
+        && form_is_refused(alloc, matrix, room, refusal)
+        && permutations_are_refused(alloc, matrix, room, refusal)
+        && order_is_refused(alloc, matrix, room, true, refusal)
+        && order_is_refused(alloc, matrix, room, false, refusal)
 }
 
-/// Lists that are no compressed columns, for a reason.
+/// Lists that are no compressed columns and no compressed rows, for a reason, which names a place
+/// of the lists as they are given.
 #[derive(Clone, Copy)]
 struct Wrong {
-    rows: u32,
+    others: u32,
     starts: &'static [u32],
     ids: &'static [u32],
     error: ColumnsError,
 }
 
-fn narrow_are_refused(alloc: Global, wrong: &Wrong) -> Result<bool, Fail> {
-    let starts = Narrow { list: wrong.starts };
-    let ids = Narrow { list: wrong.ids };
-    are_refused(alloc, wrong.rows, starts, ids, wrong.error)
+fn narrow_are_refused(alloc: Global, wrong: &Wrong, by_rows: bool) -> bool {
+    let given = Given {
+        others: wrong.others as u64,
+        starts: wrong.starts,
+        ids: wrong.ids,
+        by_rows,
+    };
+    let room = room_of(wrong.others as usize, wrong.starts.len(), by_rows);
+    are_refused(alloc, &given.narrow(), room, wrong.error)
 }
 
-fn all_are_refused(alloc: Global, list: &[Wrong]) -> Result<bool, Fail> {
+fn all_are_refused(alloc: Global, list: &[Wrong]) -> bool {
     for wrong in list {
-        if !narrow_are_refused(alloc, wrong)? {
-            return Ok(false);
+        if !narrow_are_refused(alloc, wrong, false) || !narrow_are_refused(alloc, wrong, true) {
+            return false;
         }
     }
-    Ok(true)
+    true
 }
 
 /// There is none, the first is not 0, the third is less than the second, and the last is less than
 /// the number of ids, or more.
 #[rattlefmt::skip]
 static STARTS: [Wrong; 5] = [
-    Wrong { rows: 2, starts: &[], ids: &[], error: ColumnsError::BadStart(0) },
-    Wrong { rows: 2, starts: &[1, 1], ids: &[0], error: ColumnsError::BadStart(0) },
-    Wrong { rows: 2, starts: &[0, 2, 1], ids: &[0], error: ColumnsError::BadStart(2) },
-    Wrong { rows: 2, starts: &[0, 1], ids: &[0, 1], error: ColumnsError::BadStart(1) },
-    Wrong { rows: 2, starts: &[0, 1], ids: &[], error: ColumnsError::BadStart(1) },
+    Wrong { others: 2, starts: &[], ids: &[], error: ColumnsError::BadStart(0) },
+    Wrong { others: 2, starts: &[1, 1], ids: &[0], error: ColumnsError::BadStart(0) },
+    Wrong { others: 2, starts: &[0, 2, 1], ids: &[0], error: ColumnsError::BadStart(2) },
+    Wrong { others: 2, starts: &[0, 1], ids: &[0, 1], error: ColumnsError::BadStart(1) },
+    Wrong { others: 2, starts: &[0, 1], ids: &[], error: ColumnsError::BadStart(1) },
 ];
 
 #[test]
-fn start_that_is_not_right(rt: HostRuntime) -> Result<(), Fail> {
-    assert!(rt; all_are_refused(rt.alloc(), &STARTS)?);
-    Ok(())
+fn start_that_is_not_right(rt: HostRuntime) {
+    assert!(rt; all_are_refused(rt.alloc(), &STARTS));
 }
 
-/// 5 and 7 are no rows of 3, and of no rows there is none; below, 2^32 is no row of one.
+/// 5 and 7 are none of 3, and of none there is none; of the fourth list of two, 2 is none. Below,
+/// 2^32 is none of one.
 #[rattlefmt::skip]
-static ROWS: [Wrong; 2] = [
-    Wrong { rows: 3, starts: &[0, 1, 3], ids: &[2, 5, 7], error: ColumnsError::BadRow(1) },
-    Wrong { rows: 0, starts: &[0, 1], ids: &[0], error: ColumnsError::BadRow(0) },
+static IDS: [Wrong; 3] = [
+    Wrong { others: 3, starts: &[0, 1, 3], ids: &[2, 5, 7], error: ColumnsError::BadRow(1) },
+    Wrong { others: 0, starts: &[0, 1], ids: &[0], error: ColumnsError::BadRow(0) },
+    Wrong { others: 2, starts: &[0, 1, 1, 2, 4], ids: &[1, 0, 1, 2], error: ColumnsError::BadRow(3) },
 ];
 
-#[test]
-fn id_that_is_no_row(rt: HostRuntime) -> Result<(), Fail> {
-    assert!(rt; all_are_refused(rt.alloc(), &ROWS)?);
-    let (starts, ids) = (
-        Wide { list: &[0, 2] },
-        Wide {
+// Whether 2^32 is refused where it stands behind 0.
+fn wide_id_is_refused(alloc: Global, by_rows: bool) -> bool {
+    let matrix = Compressed {
+        others: 1,
+        starts: Wide { list: &[0, 2] },
+        ids: Wide {
             list: &[0, 4294967296],
         },
-    );
-    let error = ColumnsError::BadRow(1);
-    assert!(rt; are_refused(rt.alloc(), 1, starts, ids, error)?);
-    Ok(())
-}
-
-// The calls that write a number for each row look at the length of that list first.
-#[test]
-fn too_many_rows(rt: HostRuntime) -> Result<(), Fail> {
-    let (rows, error) = (4294967296, ColumnsError::TooManyRows);
-    let (starts, ids) = (Narrow { list: &[0, 1] }, Narrow { list: &[0] });
-    assert!(rt; rank(rt.alloc(), rows, starts, ids) == Err(error));
-    assert!(rt; matchings_are_refused(rt.alloc(), rows, starts, ids, error)?);
-    Ok(())
-}
-
-/// Lengths that are not those of a form of two rows and one column, which has two starts.
-#[rattlefmt::skip]
-static LENGTHS: [Lengths; 5] = [
-    Lengths { rows: 1, columns: 1, starts: 2, components: (2, 1) },
-    Lengths { rows: 2, columns: 2, starts: 2, components: (2, 1) },
-    Lengths { rows: 2, columns: 1, starts: 1, components: (2, 1) },
-    Lengths { rows: 2, columns: 1, starts: 2, components: (3, 1) },
-    Lengths { rows: 2, columns: 1, starts: 2, components: (2, 2) },
-];
-
-// Whether a form of these lengths is refused, and where components have the right ones, an order.
-fn lengths_are_refused(alloc: Global, lists: Lengths) -> Result<bool, Fail> {
-    let (starts, ids) = (Narrow { list: &[0, 2] }, Narrow { list: &[0, 1] });
-    let right_components = lists.components.0 == 2 && lists.components.1 == 1;
-    Ok(
-        form_is_refused(alloc, 2, starts, ids, lists, Refusal::Lengths)?
-            && (!right_components
-                || order_is_refused(alloc, 2, starts, ids, lists, Refusal::Lengths)?),
-    )
+        by_rows,
+    };
+    are_refused(alloc, &matrix, room_for(1, 1), ColumnsError::BadRow(1))
 }
 
 #[test]
-fn lengths_of_forms(rt: HostRuntime) -> Result<(), Fail> {
-    for lists in &LENGTHS {
-        assert!(rt; lengths_are_refused(rt.alloc(), *lists)?);
-    }
-    Ok(())
+fn id_that_is_no_row(rt: HostRuntime) {
+    assert!(rt; all_are_refused(rt.alloc(), &IDS));
+    assert!(rt; wide_id_is_refused(rt.alloc(), false));
+    assert!(rt; wide_id_is_refused(rt.alloc(), true));
 }
 
-// Whether a list of one place is refused beside lists without a start.
-fn length_is_refused(alloc: Global, least: bool) -> bool {
-    let (none, ids) = (Narrow { list: &[] }, Narrow { list: &[0, 1] });
-    let mut mates = [7; 1];
-    let found = matching(alloc, 2, none, ids, least, &mut mates);
-    found == Err(Refusal::Lengths) && mates[0] == 7
+// Whether a start of 2^32 + 2 is refused beside two ids.
+fn wide_start_is_refused(alloc: Global, by_rows: bool) -> bool {
+    let matrix = Compressed {
+        others: 1,
+        starts: Wide {
+            list: &[0, 4294967298],
+        },
+        ids: Wide { list: &[0, 0] },
+        by_rows,
+    };
+    are_refused(alloc, &matrix, room_for(1, 1), ColumnsError::BadStart(1))
 }
 
-// The length is looked at before the lists, which have no start.
 #[test]
-fn length_of_a_matching(rt: HostRuntime) {
-    assert!(rt; length_is_refused(rt.alloc(), false));
-    assert!(rt; length_is_refused(rt.alloc(), true));
+fn start_of_64_bits(rt: HostRuntime) {
+    assert!(rt; wide_start_is_refused(rt.alloc(), false));
+    assert!(rt; wide_start_is_refused(rt.alloc(), true));
+}
+
+// Whether 2^32 rows, or by rows so many columns, are refused. The lists with a place for each of
+// them are not wanted.
+fn too_many_are_refused(alloc: Global, by_rows: bool, room: Room) -> bool {
+    let matrix = Compressed {
+        others: 4294967296,
+        starts: Narrow { list: &[0, 1] },
+        ids: Narrow { list: &[0] },
+        by_rows,
+    };
+    are_refused(alloc, &matrix, room, ColumnsError::TooManyRows)
+}
+
+#[test]
+fn too_many_rows(rt: HostRuntime) {
+    let (rows, columns, starts, cuts) = (0, 1, 2, 3);
+    let room = Room {
+        rows,
+        columns,
+        starts,
+        cuts,
+    };
+    assert!(rt; too_many_are_refused(rt.alloc(), false, room));
+}
+
+#[test]
+fn too_many_columns(rt: HostRuntime) {
+    let (rows, columns, starts, cuts) = (1, 0, 0, 3);
+    let room = Room {
+        rows,
+        columns,
+        starts,
+        cuts,
+    };
+    assert!(rt; too_many_are_refused(rt.alloc(), true, room));
 }

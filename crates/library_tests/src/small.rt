@@ -1,92 +1,159 @@
-//! Lists for the calls to write.
+//! Lists for the calls to write, and matrices for them to read.
 
-use crate::matrices::LEFT;
-use blocktri::{NumberList, Refusal, Sizes, decomposition};
-use std::alloc::Global;
-use std::test::Fail;
+use crate::matrices::{LEFT, Worked};
+use blocktri::{Compressed, Narrow, Wide};
 
-/// A list for a call to write.
-pub(crate) fn unwritten(alloc: Global, length: usize) -> Result<Vec<u32>, Fail> {
-    Ok(vec![in alloc; LEFT; length]?)
+/// Which of a call's lists are wanted. They are counted from 0.
+#[derive(Clone, Copy)]
+pub(crate) enum Wanted {
+    All,
+    Only(usize),
+    Nothing,
 }
 
-/// Whether nothing was written.
-pub(crate) fn is_unwritten(list: &[u32]) -> bool {
-    for number in list {
-        if *number != LEFT {
-            return false;
+impl Wanted {
+    fn has(self, list: usize) -> bool {
+        match self {
+            Wanted::All => true,
+            Wanted::Only(one) => one == list,
+            Wanted::Nothing => false,
         }
     }
-    true
+
+    /// How long a list is that has room for these numbers where it is wanted.
+    pub(crate) fn length(self, list: usize, numbers: &[u32]) -> usize {
+        if self.has(list) { numbers.len() } else { 0 }
+    }
 }
 
-/// How long the lists of a form are: an order of the rows and of the columns, the block starts, and
-/// the numbers of the rows' and of the columns' components.
+/// All of seven lists, each alone, and none.
+pub(crate) static CHOICES: [Wanted; 9] = [
+    Wanted::All,
+    Wanted::Only(0),
+    Wanted::Only(1),
+    Wanted::Only(2),
+    Wanted::Only(3),
+    Wanted::Only(4),
+    Wanted::Only(5),
+    Wanted::Only(6),
+    Wanted::Nothing,
+];
+
+/// A list for a call to write, of at most eight places.
 #[derive(Clone, Copy)]
-pub(crate) struct Lengths {
-    pub(crate) rows: usize,
-    pub(crate) columns: usize,
-    pub(crate) starts: usize,
-    pub(crate) components: (usize, usize),
+pub(crate) struct List {
+    numbers: [u32; 8],
+    length: usize,
 }
 
-/// The lists of a form.
-#[derive(Drop)]
-pub(crate) struct FormLists {
-    pub(crate) row_order: Vec<u32>,
-    pub(crate) column_order: Vec<u32>,
-    pub(crate) block_starts: Vec<u32>,
-    pub(crate) of_rows: Vec<u32>,
-    pub(crate) of_columns: Vec<u32>,
-}
-
-impl FormLists {
-    pub(crate) fn new(alloc: Global, lengths: Lengths) -> Result<FormLists, Fail> {
-        Ok(FormLists {
-            row_order: unwritten(alloc, lengths.rows)?,
-            column_order: unwritten(alloc, lengths.columns)?,
-            block_starts: unwritten(alloc, lengths.starts)?,
-            of_rows: unwritten(alloc, lengths.components.0)?,
-            of_columns: unwritten(alloc, lengths.components.1)?,
-        })
+impl List {
+    pub(crate) fn new(length: usize) -> List {
+        List {
+            numbers: [LEFT; 8],
+            length,
+        }
     }
 
-    /// Lets the call write them.
-    pub(crate) fn write<N: NumberList>(
-        &mut self,
-        alloc: Global,
-        rows: u32,
-        starts: N,
-        ids: N,
-    ) -> Result<Sizes, Refusal> {
-        decomposition(
-            alloc,
-            rows as u64,
-            starts,
-            ids,
-            self.row_order.as_mut_slice(),
-            self.column_order.as_mut_slice(),
-            self.block_starts.as_mut_slice(),
-            self.of_rows.as_mut_slice(),
-            self.of_columns.as_mut_slice(),
-        )
+    /// The places for the call.
+    pub(crate) fn places(&mut self) -> &mut [u32] {
+        let length = self.length.min(8);
+        &mut self.numbers[..length]
+    }
+
+    /// Whether these numbers were written, or where there are no places, nothing.
+    pub(crate) fn has(&self, numbers: &[u32]) -> bool {
+        for place in 0..8 {
+            let number = if self.length != 0 && place < numbers.len() {
+                numbers[place]
+            } else {
+                LEFT
+            };
+            if self.numbers[place] != number {
+                return false;
+            }
+        }
+        numbers.len() <= 8
+    }
+
+    /// The same where the numbers are looked for, and else whether nothing was written.
+    pub(crate) fn has_if(&self, is_looked_for: bool, numbers: &[u32]) -> bool {
+        if is_looked_for {
+            self.has(numbers)
+        } else {
+            self.is_left()
+        }
     }
 
     /// Whether nothing was written.
-    pub(crate) fn are_unwritten(&self) -> bool {
-        is_unwritten(self.row_order.as_slice())
-            && is_unwritten(self.column_order.as_slice())
-            && is_unwritten(self.block_starts.as_slice())
-            && is_unwritten(self.of_rows.as_slice())
-            && is_unwritten(self.of_columns.as_slice())
+    pub(crate) fn is_left(&self) -> bool {
+        self.has(&[])
     }
 }
 
-/// The numbers, in 64 bits.
-pub(crate) fn widened(alloc: Global, numbers: &[u32]) -> Result<Vec<u64>, Fail> {
-    let mut wide = Vec::new(alloc);
-    for number in numbers {
-        wide.push(*number as u64)?;
+/// A matrix as compressed columns, or as compressed rows.
+#[derive(Clone, Copy)]
+pub(crate) struct Given<'a> {
+    pub(crate) others: u64,
+    pub(crate) starts: &'a [u32],
+    pub(crate) ids: &'a [u32],
+    pub(crate) by_rows: bool,
+}
+
+impl<'a> Given<'a> {
+    /// A matrix of the table.
+    pub(crate) fn of(worked: &Worked<'a>, by_rows: bool) -> Given<'a> {
+        if by_rows {
+            Given {
+                others: worked.columns as u64,
+                starts: worked.row_starts,
+                ids: worked.row_ids,
+                by_rows,
+            }
+        } else {
+            Given {
+                others: worked.rows as u64,
+                starts: worked.starts,
+                ids: worked.ids,
+                by_rows,
+            }
+        }
     }
-    Ok(wide)
+
+    /// With numbers of 32 bits.
+    pub(crate) fn narrow(self) -> Compressed<Narrow<'a>> {
+        Compressed {
+            others: self.others,
+            starts: Narrow { list: self.starts },
+            ids: Narrow { list: self.ids },
+            by_rows: self.by_rows,
+        }
+    }
+
+    /// With the numbers of 64 bits that were made of its lists.
+    pub(crate) fn wide<'b>(
+        self,
+        starts: &'b [u64; 16],
+        ids: &'b [u64; 16],
+    ) -> Compressed<Wide<'b>> {
+        let (starts_end, ids_end) = (self.starts.len().min(16), self.ids.len().min(16));
+        Compressed {
+            others: self.others,
+            starts: Wide {
+                list: &starts[..starts_end],
+            },
+            ids: Wide {
+                list: &ids[..ids_end],
+            },
+            by_rows: self.by_rows,
+        }
+    }
+}
+
+/// The first 16 numbers, in 64 bits.
+pub(crate) fn widened(numbers: &[u32]) -> [u64; 16] {
+    let mut wide = [0; 16];
+    for place in 0..numbers.len().min(16) {
+        wide[place] = numbers[place] as u64;
+    }
+    wide
 }

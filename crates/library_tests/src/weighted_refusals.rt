@@ -1,7 +1,7 @@
 //! Matrices with values that have no diagonal, and lists that are refused. Nothing is written then.
 
 use blocktri::{
-    ColumnsError, DiagonalRefusal, Narrow, Refusal, WeightedColumns, bottleneck, heaviest,
+    ColumnsError, Compressed, DiagonalRefusal, Narrow, Refusal, Sum, Weighted, bottleneck, heaviest,
 };
 use std::alloc::Global;
 
@@ -32,19 +32,20 @@ fn prices_are_sevens(list: &[i64]) -> bool {
 /// A matrix, and the reason for which it is refused.
 #[derive(Clone, Copy)]
 struct Wrong {
-    rows: u64,
+    others: u64,
     starts: &'static [u32],
     ids: &'static [u32],
     values: &'static [i64],
+    by_rows: bool,
     reason: DiagonalRefusal,
 }
 
-fn matrix_of(wrong: &Wrong) -> WeightedColumns<'static, Narrow<'static>> {
-    WeightedColumns {
-        rows: wrong.rows,
+fn lists_of(wrong: &Wrong) -> Compressed<Narrow<'static>> {
+    Compressed {
+        others: wrong.others,
         starts: Narrow { list: wrong.starts },
         ids: Narrow { list: wrong.ids },
-        values: wrong.values,
+        by_rows: wrong.by_rows,
     }
 }
 
@@ -60,10 +61,15 @@ fn heaviest_is_refused(
     if mates > 4 || rows > 4 || columns > 4 {
         return false;
     }
+    let matrix = lists_of(wrong);
+    let weighted = Weighted {
+        matrix: &matrix,
+        values: wrong.values,
+    };
     let (mut row_of_column, mut u, mut v) = ([7; 4], [7; 4], [7; 4]);
     let found = heaviest(
         alloc,
-        &matrix_of(wrong),
+        &weighted,
         &mut row_of_column[..mates],
         &mut u[..rows],
         &mut v[..columns],
@@ -79,10 +85,15 @@ fn bottleneck_is_refused(alloc: Global, wrong: &Wrong, mates: usize, columns: us
     if mates > 4 || columns > 4 {
         return false;
     }
+    let matrix = lists_of(wrong);
+    let weighted = Weighted {
+        matrix: &matrix,
+        values: wrong.values,
+    };
     let (mut row_of_column, mut shown_by) = ([7; 4], [7; 4]);
     let found = bottleneck(
         alloc,
-        &matrix_of(wrong),
+        &weighted,
         &mut row_of_column[..mates],
         &mut shown_by[..columns],
     );
@@ -91,7 +102,12 @@ fn bottleneck_is_refused(alloc: Global, wrong: &Wrong, mates: usize, columns: us
 
 // Whether both are refused where the lists have the right lengths.
 fn both_are_refused(alloc: Global, wrong: &Wrong) -> bool {
-    let (rows, columns) = (wrong.rows as usize, wrong.starts.len().saturating_sub(1));
+    let (others, lists) = (wrong.others as usize, wrong.starts.len().saturating_sub(1));
+    let (rows, columns) = if wrong.by_rows {
+        (lists, others)
+    } else {
+        (others, lists)
+    };
     heaviest_is_refused(alloc, wrong, columns, rows, columns)
         && bottleneck_is_refused(alloc, wrong, columns, columns)
 }
@@ -107,21 +123,30 @@ fn all_are_refused(alloc: Global, list: &[Wrong]) -> bool {
 }
 
 /// In the first, the sum at row 1 of column 1 is 2^63, and its first id is the one at place 1; in
-/// the last, that of row 0 is -2^63 and stands above it, at place 2. A sum past the limit comes
-/// before the want of a perfect matching.
+/// the third, that of row 0 is -2^63 and stands above it, at place 2. A sum past the limit comes
+/// before the want of a perfect matching. By rows the sums at (0 1) and (1 0) pass the limit, and
+/// the second is of the lesser column; and then those at (1 0) and (0 0).
 #[rattlefmt::skip]
-static SUMS: [Wrong; 3] = [
+static SUMS: [Wrong; 5] = [
     Wrong {
-        rows: 2, starts: &[0, 1, 4], ids: &[0, 1, 0, 1], values: &[1, MOST, 1, 1],
+        by_rows: false, others: 2, starts: &[0, 1, 4], ids: &[0, 1, 0, 1], values: &[1, MOST, 1, 1],
         reason: DiagonalRefusal::SumLimit(1),
     },
     Wrong {
-        rows: 3, starts: &[0, 1, 2], ids: &[0, 1], values: &[1, LEAST],
+        by_rows: false, others: 3, starts: &[0, 1, 2], ids: &[0, 1], values: &[1, LEAST],
         reason: DiagonalRefusal::SumLimit(1),
     },
     Wrong {
-        rows: 2, starts: &[0, 1, 4], ids: &[0, 1, 0, 1], values: &[1, MOST, LEAST, 1],
+        by_rows: false, others: 2, starts: &[0, 1, 4], ids: &[0, 1, 0, 1], values: &[1, MOST, LEAST, 1],
         reason: DiagonalRefusal::SumLimit(2),
+    },
+    Wrong {
+        by_rows: true, others: 2, starts: &[0, 2, 3], ids: &[1, 1, 0], values: &[MOST, 1, LEAST],
+        reason: DiagonalRefusal::SumLimit(2),
+    },
+    Wrong {
+        by_rows: true, others: 2, starts: &[0, 3, 4], ids: &[1, 0, 0, 0], values: &[1, MOST, 9, LEAST],
+        reason: DiagonalRefusal::SumLimit(1),
     },
 ];
 
@@ -130,19 +155,15 @@ fn sum_past_the_limit(rt: HostRuntime) {
     assert!(rt; all_are_refused(rt.alloc(), &SUMS));
 }
 
-/// Both columns have their entry in row 0; then there are more rows than columns, and then fewer.
+/// Both columns have their entry in row 0, and then both rows in column 0.
 #[rattlefmt::skip]
-static SINGULAR: [Wrong; 3] = [
+static SINGULAR: [Wrong; 2] = [
     Wrong {
-        rows: 2, starts: &[0, 1, 2], ids: &[0, 0], values: &[1, 2],
+        by_rows: false, others: 2, starts: &[0, 1, 2], ids: &[0, 0], values: &[1, 2],
         reason: DiagonalRefusal::Singular,
     },
     Wrong {
-        rows: 3, starts: &[0, 1, 2], ids: &[0, 1], values: &[1, 2],
-        reason: DiagonalRefusal::Singular,
-    },
-    Wrong {
-        rows: 1, starts: &[0, 1, 2], ids: &[0, 0], values: &[1, 2],
+        by_rows: true, others: 2, starts: &[0, 1, 2], ids: &[0, 0], values: &[1, 2],
         reason: DiagonalRefusal::Singular,
     },
 ];
@@ -152,24 +173,50 @@ fn no_perfect_matching(rt: HostRuntime) {
     assert!(rt; all_are_refused(rt.alloc(), &SINGULAR));
 }
 
+/// There are more rows than columns, and then fewer; by rows the other way.
+#[rattlefmt::skip]
+static NOT_SQUARE: [Wrong; 4] = [
+    Wrong {
+        by_rows: false, others: 3, starts: &[0, 1, 2], ids: &[0, 1], values: &[1, 2],
+        reason: DiagonalRefusal::NotSquare,
+    },
+    Wrong {
+        by_rows: false, others: 1, starts: &[0, 1, 2], ids: &[0, 0], values: &[1, 2],
+        reason: DiagonalRefusal::NotSquare,
+    },
+    Wrong {
+        by_rows: true, others: 3, starts: &[0, 1, 2], ids: &[0, 1], values: &[1, 2],
+        reason: DiagonalRefusal::NotSquare,
+    },
+    Wrong {
+        by_rows: true, others: 1, starts: &[0, 1, 2], ids: &[0, 0], values: &[1, 2],
+        reason: DiagonalRefusal::NotSquare,
+    },
+];
+
+#[test]
+fn not_as_many_rows_as_columns(rt: HostRuntime) {
+    assert!(rt; all_are_refused(rt.alloc(), &NOT_SQUARE));
+}
+
 /// A start that falls, an id that is no row, and fewer and more values than ids; of the last the ids
 /// are not looked at.
 #[rattlefmt::skip]
 static LISTS: [Wrong; 4] = [
     Wrong {
-        rows: 2, starts: &[0, 2, 1], ids: &[0], values: &[1],
+        by_rows: false, others: 2, starts: &[0, 2, 1], ids: &[0], values: &[1],
         reason: DiagonalRefusal::Lists(Refusal::Columns(ColumnsError::BadStart(2))),
     },
     Wrong {
-        rows: 2, starts: &[0, 1, 2], ids: &[0, 2], values: &[1, 1],
+        by_rows: false, others: 2, starts: &[0, 1, 2], ids: &[0, 2], values: &[1, 1],
         reason: DiagonalRefusal::Lists(Refusal::Columns(ColumnsError::BadRow(1))),
     },
     Wrong {
-        rows: 2, starts: &[0, 1, 2], ids: &[0, 1], values: &[1],
+        by_rows: false, others: 2, starts: &[0, 1, 2], ids: &[0, 1], values: &[1],
         reason: DiagonalRefusal::Lists(Refusal::Lengths),
     },
     Wrong {
-        rows: 2, starts: &[0, 1, 2], ids: &[0, 5], values: &[1, 1, 1],
+        by_rows: false, others: 2, starts: &[0, 1, 2], ids: &[0, 5], values: &[1, 1, 1],
         reason: DiagonalRefusal::Lists(Refusal::Lengths),
     },
 ];
@@ -181,7 +228,7 @@ fn lists_that_are_not_right(rt: HostRuntime) {
 
 #[rattlefmt::skip]
 static NO_STARTS: Wrong = Wrong {
-    rows: 1, starts: &[], ids: &[], values: &[],
+    by_rows: false, others: 1, starts: &[], ids: &[], values: &[],
     reason: DiagonalRefusal::Lists(Refusal::Columns(ColumnsError::BadStart(0))),
 };
 
@@ -192,41 +239,43 @@ fn no_starts(rt: HostRuntime) {
 
 #[rattlefmt::skip]
 static MANY_ROWS: Wrong = Wrong {
-    rows: 4294967296, starts: &[0, 1], ids: &[0], values: &[1],
+    by_rows: false, others: 4294967296, starts: &[0, 1], ids: &[0], values: &[1],
     reason: DiagonalRefusal::Lists(Refusal::Columns(ColumnsError::TooManyRows)),
 };
 
-// The call that writes a price for each row looks at the length of that list first.
+// The call that writes a price for each row looks at the length of that list first, where it is
+// wanted.
 #[test]
 fn too_many_rows(rt: HostRuntime) {
     assert!(rt; bottleneck_is_refused(rt.alloc(), &MANY_ROWS, 1, 1));
+    assert!(rt; heaviest_is_refused(rt.alloc(), &MANY_ROWS, 1, 0, 1));
 }
 
-/// One entry. Each of the lists should have one place.
+/// One entry. Each of the lists should have one place, or none.
 #[rattlefmt::skip]
 static ONE_ENTRY: Wrong = Wrong {
-    rows: 1, starts: &[0, 1], ids: &[0], values: &[1],
+    by_rows: false, others: 1, starts: &[0, 1], ids: &[0], values: &[1],
     reason: DiagonalRefusal::Lists(Refusal::Lengths),
 };
 
 #[test]
 fn lengths_of_the_heaviest(rt: HostRuntime) {
     assert!(rt; heaviest_is_refused(rt.alloc(), &ONE_ENTRY, 2, 1, 1));
-    assert!(rt; heaviest_is_refused(rt.alloc(), &ONE_ENTRY, 1, 0, 1));
-    assert!(rt; heaviest_is_refused(rt.alloc(), &ONE_ENTRY, 1, 1, 2));
+    assert!(rt; heaviest_is_refused(rt.alloc(), &ONE_ENTRY, 0, 2, 1));
+    assert!(rt; heaviest_is_refused(rt.alloc(), &ONE_ENTRY, 1, 0, 2));
 }
 
 #[test]
 fn lengths_of_the_bottleneck(rt: HostRuntime) {
     assert!(rt; bottleneck_is_refused(rt.alloc(), &ONE_ENTRY, 2, 1));
-    assert!(rt; bottleneck_is_refused(rt.alloc(), &ONE_ENTRY, 1, 2));
+    assert!(rt; bottleneck_is_refused(rt.alloc(), &ONE_ENTRY, 0, 2));
 }
 
 /// The diagonal of zeros is the one there is, and each row's price is at least 2^63 - 1 more than
 /// that of the row above it. So no prices of four rows fit.
 #[rattlefmt::skip]
 static HIGH_PRICES: Wrong = Wrong {
-    rows: 4, starts: &[0, 2, 4, 6, 7], ids: &[0, 1, 1, 2, 2, 3, 3],
+    by_rows: false, others: 4, starts: &[0, 2, 4, 6, 7], ids: &[0, 1, 1, 2, 2, 3, 3],
     values: &[0, MOST, 0, MOST, 0, MOST, 0],
     reason: DiagonalRefusal::PriceLimit,
 };
@@ -234,4 +283,19 @@ static HIGH_PRICES: Wrong = Wrong {
 #[test]
 fn price_past_64_bits(rt: HostRuntime) {
     assert!(rt; heaviest_is_refused(rt.alloc(), &HIGH_PRICES, 4, 4, 4));
+    assert!(rt; heaviest_is_refused(rt.alloc(), &HIGH_PRICES, 4, 4, 0));
+    assert!(rt; heaviest_is_refused(rt.alloc(), &HIGH_PRICES, 0, 0, 4));
+}
+
+// Where no prices are wanted, they need not fit.
+#[test]
+fn no_prices_are_wanted(rt: HostRuntime) {
+    let matrix = lists_of(&HIGH_PRICES);
+    let weighted = Weighted {
+        matrix: &matrix,
+        values: HIGH_PRICES.values,
+    };
+    let mut row_of_column = [7; 4];
+    let found = heaviest(rt.alloc(), &weighted, &mut row_of_column, &mut [], &mut []);
+    assert!(rt; found == Ok(Sum { low: 0, high: 0 }) && row_of_column == [0, 1, 2, 3]);
 }

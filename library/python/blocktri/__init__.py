@@ -1,11 +1,13 @@
 """The structure of sparse matrices: structural rank, matchings, Dulmage-Mendelsohn decomposition, block triangular form.
 
-The calls are those of the C library ``libblocktri``, whose answers are proved. They take SciPy's sparse matrices and arrays:
-those in CSC or CSR, with indices of 32 or 64 bits, where they stand, and any other by SciPy's conversion. Nothing of the caller's
-is changed, and no other thread may change the arrays of a matrix while a call reads them. Calls may run at the same time.
+The calls are those of the C library ``libblocktri``, whose answers are proved. They take SciPy's sparse matrices and arrays. They
+read CSC and CSR in place, with indices of int32 or int64; SciPy converts any other format. They change nothing of yours. Calls may
+run at the same time, but no thread may change the arrays of a matrix while a call reads them.
 
-Without SciPy any object will do that has `format` (``"csc"`` or ``"csr"``), `shape`, `indptr` and `indices`, and `data` where values
-are asked for; for a least matching and a bottleneck it must be ``"csc"``. Rows and columns count from 0.
+Rows and columns count from 0. Their numbers come as int32 or int64, as the matrix has its indices.
+
+Without SciPy a matrix may be any object that has `format` (``"csc"`` or ``"csr"``), `shape`, `indptr` and `indices`, and `data` if
+a call reads values.
 
 `blocktri.csgraph` has drop-ins for ``scipy.sparse.csgraph``.
 """
@@ -35,4 +37,4 @@ __all__ = [
     "structural_rank",
 ]
 
-__version__ = "0.1.0"
+__version__ = "1.0.0"

@@ -2,13 +2,12 @@
 
 from __future__ import annotations
 
-import ctypes
 from typing import Any, NamedTuple
 
 import numpy
 
-from ._columns import compressed, signed
 from ._decomposition import Lines
+from ._entries import compressed
 from ._library import call
 from ._singular import needing_diagonal
 
@@ -27,17 +26,17 @@ class BlockOrder(NamedTuple):
 def block_order(matrix: Any) -> BlockOrder:
     """The block triangular form of a square matrix of full structural rank, as KLU asks it of SuiteSparse's ``btf_order``.
 
-    The blocks are the fine blocks of `dmperm`, in the same order.
+    The blocks are the fine blocks of `dmperm`, in the same order. A full diagonal is kept, as by `maximum_matching`.
 
     Parameters
     ----------
     matrix : sparse matrix or array, or array_like
-        A matrix in CSC or CSR is read where it stands; any other is converted by SciPy. A stored zero is an entry.
+        The package reads CSC and CSR in place; SciPy converts any other format. A stored zero is an entry.
 
     Returns
     -------
     BlockOrder
-        It unpacks as ``p, q, r``.
+        It unpacks as ``p, q, r``. Row and column numbers have the type of the indices of `matrix`, int32 or int64.
 
     Raises
     ------
@@ -61,14 +60,9 @@ def block_order(matrix: Any) -> BlockOrder:
     ...
     blocktri.StructurallySingular: the matrix is structurally singular: its rank is 2 of 3, since columns 0, 1 have entries in row 0 alone
     """
-    columns = compressed(matrix)
-    size, blocks = columns.count, ctypes.c_uint32()
-    orders = [numpy.empty(lines, numpy.uint32) for lines in (size, size, size + 1)]
-    with needing_diagonal(matrix, columns):
-        call("block_order", columns, *orders, ctypes.byref(blocks))
-    starts = orders[2][: blocks.value + 1].astype(numpy.intp)
-    rows, others = (signed(order, size) for order in orders[:2])
-    if not columns.is_transposed:
-        return BlockOrder(rows, others, starts)
-    # the transpose of an upper triangular form is a lower one, which is upper triangular backwards
-    return BlockOrder(others[::-1].copy(), rows[::-1].copy(), size - starts[::-1])
+    entries = compressed(matrix)
+    size, blocks = entries.columns, entries.room(1)
+    with needing_diagonal(entries):
+        row_order, column_order, starts = (entries.room(lines) for lines in (size, size, size + 1))
+        call("block_order", entries, row_order=row_order, column_order=column_order, block_starts=starts, blocks=blocks)
+    return BlockOrder(row_order, column_order, starts[: int(blocks[0]) + 1].astype(numpy.intp))

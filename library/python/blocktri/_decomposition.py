@@ -2,7 +2,6 @@
 
 from __future__ import annotations
 
-import ctypes
 from collections.abc import Iterator, Sequence
 from dataclasses import dataclass, field
 from typing import TYPE_CHECKING, Any, NamedTuple, overload
@@ -11,9 +10,8 @@ import numpy
 import numpy.typing
 
 from . import _picture, _words
-from ._columns import Columns, compressed, signed
-from ._library import Sizes, call
-from ._matching import inverse, matched
+from ._entries import Entries, compressed
+from ._library import MOST, Sizes, call
 
 if TYPE_CHECKING:
     from matplotlib.axes import Axes
@@ -89,8 +87,8 @@ class Decomposition:
     row_order, column_order : ndarray of integers
         The rows and the columns part by part and block by block: in these orders the matrix is block upper triangular.
     p, q : ndarray of integers
-        Such orders too, ``C = A[p][:, q]``, in which, as in MATLAB, rows and columns of a maximum matching meet: ``A12``, ``A23``
-        and ``A34`` below have entries all along their diagonals.
+        The orders that MATLAB gives: ``C = A[p][:, q]`` has a maximum matching on the diagonals of ``A12``, ``A23`` and ``A34``
+        below. It pairs row ``p[x]`` with column ``q[cc[1] + x]``, for each x less than `rank`.
     r, s : ndarray of integers
         Block k of ``C`` has the rows from ``r[k]`` up to ``r[k + 1]`` and the columns from ``s[k]`` up to ``s[k + 1]``. The
         horizontal part is one block, the first, and the vertical part one, the last, where they are there.
@@ -182,18 +180,19 @@ class Decomposition:
 def dmperm(matrix: Any) -> Decomposition:
     """The Dulmage-Mendelsohn decomposition, with the fine blocks of its square part.
 
-    Parts and blocks don't hang on the matching that is found. Of a matrix in CSC, and of any that is converted, blocks and
-    orders are those that the command ``btf analyse --order`` has. One in CSR is handed over as its transpose: its blocks are the
-    same, and stand in an order in which they fit as well.
+    Each matrix has one decomposition, whatever its format. `row_order` and `column_order` are the orders of the command
+    ``btf analyse --order``. Only `p` and `q` depend on which maximum matching is found, of which there may be several. They keep a
+    full diagonal, as `maximum_matching` does.
 
     Parameters
     ----------
     matrix : sparse matrix or array, or array_like
-        A matrix in CSC or CSR is read where it stands; any other is converted by SciPy. A stored zero is an entry.
+        The package reads CSC and CSR in place; SciPy converts any other format. A stored zero is an entry.
 
     Returns
     -------
     Decomposition
+        Row and column numbers have the type of the indices of `matrix`, int32 or int64.
 
     Raises
     ------
@@ -220,56 +219,53 @@ def dmperm(matrix: Any) -> Decomposition:
     >>> r, s
     (array([0, 1, 2, 4]), array([0, 2, 3, 4]))
     """
-    columns = compressed(matrix)
-    sizes, row_order, column_order, starts, numbers = _form(columns)
-    rows_of_columns = matched(columns)
-    if columns.is_transposed:
-        rows_of_columns = inverse(rows_of_columns, columns.rows)
-    shape = (len(row_order), len(column_order))
+    entries = compressed(matrix)
+    sizes, p, q, r, s, numbers = _called(entries)
     top, left = sizes.horizontal_rows, sizes.horizontal_columns
     bottom, right = top + sizes.square, left + sizes.square
+    row_order = _rising(p, r)
+    column_order = numpy.concatenate((numpy.sort(q[:left], kind="stable"), q[left:]))  # in the blocks of q columns rise
     horizontal = Part(row_order[:top], column_order[:left])
     square = Part(row_order[top:bottom], column_order[left:right])
     vertical = Part(row_order[bottom:], column_order[right:])
-    coarse = _coarse(sizes, shape)
+    first = 1 if left > 0 else 0
     return Decomposition(
-        shape,
+        (entries.rows, entries.columns),
         sizes.rank,
         horizontal,
         square,
         vertical,
-        Blocks(square, starts),
+        Blocks(square, r[first : first + sizes.blocks + 1] - top),
         _grouped(horizontal, numbers, sizes.horizontal_components),
         _grouped(vertical, numbers, sizes.vertical_components),
         row_order,
         column_order,
-        *_paired(coarse, row_order, column_order, rows_of_columns),
-        *_starts_of_all(coarse, starts),
-        *coarse,
+        p,
+        q,
+        r,
+        s,
+        numpy.array(sizes.cc, numpy.intp),
+        numpy.array(sizes.rr, numpy.intp),
         matrix,
     )
 
 
-def _form(columns: Columns) -> tuple[Sizes, Lines, Lines, Lines, tuple[Lines, Lines]]:
-    """Sizes, orders, where the fine blocks begin, and the component of each row and column, of the matrix whose columns or rows
-    these are."""
-    sizes = Sizes()
-    row_order, column_order = numpy.empty(columns.rows, numpy.uint32), numpy.empty(columns.count, numpy.uint32)
-    row_component, column_component = numpy.empty_like(row_order), numpy.empty_like(column_order)
-    block_starts = numpy.empty(columns.count + 1, numpy.uint32)
-    call("decomposition", columns, row_order, column_order, block_starts, row_component, column_component, ctypes.byref(sizes))
-    starts = block_starts[: sizes.blocks + 1].astype(numpy.intp)
-    rows, others = signed(row_order, columns.rows), signed(column_order, columns.count)
-    if not columns.is_transposed:
-        return sizes, rows, others, starts, (row_component, column_component)
-    # the transpose of an upper triangular form is a lower one: parts and blocks go the other way round, each as it is
-    exchanged = Sizes(sizes.rank, sizes.vertical_columns, sizes.vertical_rows, sizes.square,
-                      sizes.horizontal_columns, sizes.horizontal_rows, sizes.blocks,
-                      sizes.vertical_components, sizes.horizontal_components)
-    row_starts = numpy.concatenate(([0], starts + sizes.horizontal_rows, [len(rows)]))
-    other_starts = numpy.concatenate(([0], starts + sizes.horizontal_columns, [len(others)]))
-    orders = _backwards(others, other_starts), _backwards(rows, row_starts)
-    return exchanged, *orders, sizes.square - starts[::-1], (column_component, row_component)
+def _called(entries: Entries) -> tuple[Sizes, Lines, Lines, Lines, Lines, tuple[Lines, Lines]]:
+    """Sizes, MATLAB's ``p``, ``q``, ``r`` and ``s``, and the component of each row and column."""
+    sizes, p, q = Sizes(), entries.room(entries.rows), entries.room(entries.columns)
+    r, s = (entries.room(min(entries.rows, entries.columns) + 2) for _ in range(2))
+    row_component, column_component = numpy.empty_like(p), numpy.empty_like(q)
+    call("dmperm", entries, p=p, q=q, r=r, s=s, row_component=row_component, column_component=column_component, sizes=sizes)
+    r, s = (starts[: sizes.nb + 1].astype(numpy.intp) for starts in (r, s))
+    return sizes, p, q, r, s, (row_component, column_component)
+
+
+def _rising(order: Lines, starts: Lines) -> Lines:
+    """The numbers of an order, sorted within each of the pieces that begin at these starts."""
+    pieces = numpy.repeat(numpy.arange(len(starts) - 1, dtype=numpy.uint64) << 32, numpy.diff(starts))
+    keys = pieces | order.astype(numpy.uint64)
+    keys.sort(kind="stable")  # which is fast if long runs rise, as where most pieces have one number
+    return (keys & MOST).astype(order.dtype)
 
 
 def _grouped(part: Part, numbers: tuple[Lines, Lines], count: int) -> Parts:
@@ -281,44 +277,3 @@ def _grouped(part: Part, numbers: tuple[Lines, Lines], count: int) -> Parts:
         orders.append(lines[numpy.argsort(of_part, kind="stable")])
         starts.append(numpy.append(0, numpy.cumsum(numpy.bincount(of_part, minlength=count))))
     return Parts(Part(*orders), *starts)
-
-
-def _backwards(order: Lines, starts: Lines) -> Lines:
-    """The pieces of a list, which begin there, from the last to the first, each as it is."""
-    sizes = numpy.diff(starts)[::-1]
-    shifts = numpy.repeat(starts[:-1][::-1] - (numpy.cumsum(sizes) - sizes), sizes)
-    turned: Lines = order[shifts + numpy.arange(len(order))]
-    return turned
-
-
-def _coarse(sizes: Sizes, shape: tuple[int, int]) -> tuple[Lines, Lines]:
-    """MATLAB's ``cc`` and ``rr``."""
-    right, bottom = sizes.horizontal_columns + sizes.square, sizes.horizontal_rows + sizes.square
-    unmatched = sizes.horizontal_columns - sizes.horizontal_rows
-    cc = numpy.array([0, unmatched, sizes.horizontal_columns, right, shape[1]])
-    rr = numpy.array([0, sizes.horizontal_rows, bottom, bottom + sizes.vertical_columns, shape[0]])
-    return cc, rr
-
-
-def _starts_of_all(coarse: tuple[Lines, Lines], starts: Lines) -> tuple[Lines, Lines]:
-    """MATLAB's ``r`` and ``s``."""
-    cc, rr = coarse
-    before = [0] if cc[2] > 0 else []
-    behind = starts if rr[2] < rr[4] else starts[:-1]
-    r, s = (numpy.concatenate((before, first + behind, [end])) for first, end in ((rr[1], rr[4]), (cc[2], cc[4])))
-    return r.astype(numpy.intp, copy=False), s.astype(numpy.intp, copy=False)
-
-
-def _paired(
-    coarse: tuple[Lines, Lines], row_order: Lines, column_order: Lines, rows_of_columns: Lines
-) -> tuple[Lines, Lines]:
-    """MATLAB's ``p`` and ``q``: the orders, with the pairs of a maximum matching side by side within each part and block."""
-    cc, rr = coarse
-    horizontal = column_order[: cc[2]]
-    is_matched = rows_of_columns[horizontal] >= 0
-    q = numpy.concatenate((horizontal[~is_matched], horizontal[is_matched], column_order[cc[2] :]))
-    mates = rows_of_columns[q[cc[1] :]]
-    is_left_out = numpy.ones(len(row_order), bool)
-    is_left_out[mates] = False
-    vertical = row_order[rr[2] :]
-    return numpy.concatenate((mates, vertical[is_left_out[vertical]])), q

@@ -2,16 +2,14 @@
 
 from __future__ import annotations
 
-import ctypes
 from typing import Any, NamedTuple
 
 import numpy
 import numpy.typing
 
-from ._columns import Columns, signed, weighted
 from ._decomposition import Lines
+from ._entries import weighted
 from ._library import Sum, call
-from ._matching import inverse
 from ._singular import needing_diagonal
 
 
@@ -48,8 +46,8 @@ def heaviest_diagonal(matrix: Any) -> HeaviestDiagonal:
     Parameters
     ----------
     matrix : sparse matrix or array, or array_like
-        A square matrix of integers of 64 bits, which may stand as floating-point numbers. A matrix in CSC or CSR is read where it
-        stands; any other is converted by SciPy. A stored zero is an entry, and values given for one place are added up.
+        A square matrix of integers of 64 bits, which may be stored as floating-point numbers. The package reads CSC and CSR in
+        place; SciPy converts any other format. A stored zero is an entry. Values given for one place are added up.
 
     Returns
     -------
@@ -74,21 +72,13 @@ def heaviest_diagonal(matrix: Any) -> HeaviestDiagonal:
     >>> diagonal.sum, diagonal.rows
     (16, array([1, 0, 2], dtype=int32))
     """
-    columns, values = weighted(matrix)
-    with needing_diagonal(matrix, columns):
-        mates, row_prices, column_prices, total = heaviest(columns, values)
-    if columns.is_transposed:
-        return HeaviestDiagonal(inverse(mates, columns.rows), column_prices, row_prices, total)
-    return HeaviestDiagonal(mates, row_prices, column_prices, total)
-
-
-def heaviest(columns: Columns, values: numpy.typing.NDArray[numpy.int64]) -> HeaviestDiagonal:
-    """The heaviest diagonal of the matrix that has these columns; where they are rows, that of its transpose."""
-    size, total = columns.count, Sum()
-    rows = numpy.empty(size, numpy.uint32)
-    row_prices, column_prices = numpy.empty(columns.rows, numpy.int64), numpy.empty(size, numpy.int64)
-    call("heaviest", columns, values, rows, row_prices, column_prices, ctypes.byref(total))
-    return HeaviestDiagonal(signed(rows, size), row_prices, column_prices, total.high << 64 | total.low)
+    entries, values = weighted(matrix)
+    total = Sum()
+    with needing_diagonal(entries):
+        rows = entries.room(entries.columns)
+        row_prices, column_prices = numpy.empty(entries.rows, numpy.int64), numpy.empty(entries.columns, numpy.int64)
+        call("heaviest", entries, values=values, row_of_column=rows, row_prices=row_prices, column_prices=column_prices, sum=total)
+    return HeaviestDiagonal(rows, row_prices, column_prices, total.high << 64 | total.low)
 
 
 def bottleneck_diagonal(matrix: Any) -> BottleneckDiagonal:
@@ -97,8 +87,8 @@ def bottleneck_diagonal(matrix: Any) -> BottleneckDiagonal:
     Parameters
     ----------
     matrix : sparse matrix or array, or array_like
-        A square matrix of integers of 64 bits, which may stand as floating-point numbers. A matrix in CSC is read where it stands;
-        any other is converted by SciPy. A stored zero is an entry, and values given for one place are added up.
+        A square matrix of integers of 64 bits, which may be stored as floating-point numbers. The package reads CSC and CSR in
+        place; SciPy converts any other format. A stored zero is an entry. Values given for one place are added up.
 
     Returns
     -------
@@ -121,9 +111,9 @@ def bottleneck_diagonal(matrix: Any) -> BottleneckDiagonal:
     >>> blocktri.bottleneck_diagonal([[1, 5, 2], [4, 1, 0], [0, 6, -7]]).least
     4
     """
-    columns, values = weighted(matrix, keeps_rows=True)
-    size, least, count = columns.count, ctypes.c_uint64(), ctypes.c_uint32()
-    rows, shown = numpy.empty(size, numpy.uint32), numpy.empty(size, numpy.uint32)
-    with needing_diagonal(matrix, columns):
-        call("bottleneck", columns, values, rows, ctypes.byref(least), shown, ctypes.byref(count))
-    return BottleneckDiagonal(signed(rows, size), least.value, signed(shown, size)[: count.value])
+    entries, values = weighted(matrix)
+    least, count = numpy.empty(1, numpy.int64), entries.room(1)
+    with needing_diagonal(entries):
+        rows, columns = entries.room(entries.columns), entries.room(entries.columns)
+        call("bottleneck", entries, values=values, row_of_column=rows, least=least, column_set=columns, columns_count=count)
+    return BottleneckDiagonal(rows, int(least[0]), columns[: int(count[0])].copy())

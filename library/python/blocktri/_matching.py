@@ -2,25 +2,24 @@
 
 from __future__ import annotations
 
-import ctypes
 from typing import Any
 
 import numpy
 import numpy.typing
 
-from ._columns import Columns, compressed, signed
-from ._library import call
+from ._entries import compressed
+from ._library import LEAST, call
 
 
 def structural_rank(matrix: Any) -> int:
     """The structural rank: the greatest rank that values at the places of the entries can give.
 
-    It is the size of a maximum matching of rows with columns. A stored zero is an entry.
+    It is the size of a maximum matching of rows with columns.
 
     Parameters
     ----------
     matrix : sparse matrix or array, or array_like
-        A matrix in CSC or CSR is read where it stands; any other is converted by SciPy.
+        The package reads CSC and CSR in place; SciPy converts any other format. A stored zero is an entry.
 
     Returns
     -------
@@ -39,9 +38,10 @@ def structural_rank(matrix: Any) -> int:
     >>> blocktri.structural_rank([[1, 1, 1], [0, 0, 1], [0, 0, 1]])
     2
     """
-    rank = ctypes.c_uint32()
-    call("rank", compressed(matrix), ctypes.byref(rank))
-    return rank.value
+    entries = compressed(matrix)
+    rank = entries.room(1)
+    call("rank", entries, rank=rank)
+    return int(rank[0])
 
 
 def maximum_matching(
@@ -49,21 +49,24 @@ def maximum_matching(
 ) -> numpy.typing.NDArray[numpy.signedinteger[Any]]:
     """A maximum matching of rows with columns.
 
+    A matrix may have several, and unless `least` is true you may get any of them. But the call keeps a full diagonal: if each
+    ``A[j, j]`` is an entry, it pairs each row j with column j.
+
     Parameters
     ----------
     matrix : sparse matrix or array, or array_like
-        A matrix in CSC or CSR is read where it stands; any other is converted by SciPy.
+        The package reads CSC and CSR in place; SciPy converts any other format. A stored zero is an entry.
     perm_type : {'row', 'column'}
-        Whether the row of each column is answered, or the column of each row.
+        ``'row'`` asks for the row of each column, ``'column'`` for the column of each row.
     least : bool
-        Whether the least of all maximum matchings is wanted: the one whose list of the rows of the columns comes first,
-        where no row counts as greater than every row. There is one such, whatever the format of `matrix`; one in CSR is
-        converted for it.
+        If true, the answer is the least maximum matching: the one whose list of the rows of the columns comes first in
+        lexicographic order, with "no row" greater than every row. Each matrix has one.
 
     Returns
     -------
     ndarray of integers
-        For each column its row, or for each row its column; -1 where it has none.
+        For each column its row, or for each row its column; -1 if it has none. The numbers have the type of the indices of
+        `matrix`, int32 or int64.
 
     Raises
     ------
@@ -82,23 +85,8 @@ def maximum_matching(
     """
     if perm_type not in ("row", "column"):
         raise ValueError(f"perm_type must be 'row' or 'column', not {perm_type!r}")
-    columns = compressed(matrix, keeps_rows=least)
-    mates = matched(columns, least)
-    return mates if columns.is_transposed == (perm_type == "column") else inverse(mates, columns.rows)
-
-
-def matched(columns: Columns, least: bool = False) -> numpy.typing.NDArray[numpy.signedinteger[Any]]:
-    """The row of each column in a maximum matching, or -1."""
-    rows, size = numpy.empty(columns.count, numpy.uint32), ctypes.c_uint32()
-    call("matching", columns, least, rows, ctypes.byref(size))
-    return signed(rows, columns.rows)
-
-
-def inverse(
-    mates: numpy.typing.NDArray[numpy.integer[Any]], size: int
-) -> numpy.typing.NDArray[numpy.signedinteger[Any]]:
-    """The same pairs from the other side, which has so many lines."""
-    width = numpy.int32 if mates.size < 2**31 else numpy.int64
-    other = numpy.full(size + 1, -1, width)
-    other[mates] = numpy.arange(mates.size, dtype=width)  # a mate -1 is the last place, which is one too many
-    return other[:-1]
+    entries = compressed(matrix)
+    wanted, size = ("row_of_column", entries.columns) if perm_type == "row" else ("column_of_row", entries.rows)
+    mates = entries.room(size)
+    call("matching", entries, LEAST if least else 0, **{wanted: mates})
+    return mates

@@ -7,13 +7,12 @@ from typing import TYPE_CHECKING, Any
 import numpy
 import numpy.typing
 
-from ._columns import compressed
-from ._matching import inverse
+from ._entries import compressed
 
 if TYPE_CHECKING:
     from matplotlib.axes import Axes
 
-    from ._decomposition import Decomposition
+    from ._decomposition import Decomposition, Lines
 
 _COLOURS = {"horizontal": "tab:orange", "square": "tab:green", "vertical": "tab:red"}
 
@@ -46,12 +45,17 @@ def spy(form: Decomposition, ax: Axes | None) -> Axes:
 
 def _entries(form: Decomposition) -> tuple[numpy.typing.NDArray[Any], numpy.typing.NDArray[Any]]:
     """Where the entries of the matrix stand in the block form: their rows and their columns."""
-    columns = compressed(form._matrix)
-    rows = columns.ids
-    of_columns = numpy.repeat(numpy.arange(columns.count), numpy.diff(columns.starts).astype(numpy.intp))
-    if columns.is_transposed:
-        rows, of_columns = of_columns, rows
-    return inverse(form.row_order, form.shape[0])[rows], inverse(form.column_order, form.shape[1])[of_columns]
+    entries = compressed(form._matrix)
+    lines = numpy.repeat(numpy.arange(entries.starts.size - 1), numpy.diff(entries.starts))
+    rows, columns = (lines, entries.ids) if entries.is_by_rows else (entries.ids, lines)
+    return _places(form.row_order)[rows], _places(form.column_order)[columns]
+
+
+def _places(order: Lines) -> numpy.typing.NDArray[numpy.intp]:
+    """Where each row or column stands in an order."""
+    places = numpy.empty(len(order), numpy.intp)
+    places[order] = numpy.arange(len(order))
+    return places
 
 
 def _outlines(form: Decomposition) -> numpy.typing.NDArray[numpy.floating[Any]]:

@@ -6,9 +6,9 @@ import contextlib
 from collections.abc import Iterator
 from typing import Any
 
-from ._columns import Columns
-from ._decomposition import Lines, dmperm
-from ._library import NoPerfectMatching
+from ._decomposition import Lines
+from ._entries import Entries
+from ._library import Singular, Sizes, call
 from ._words import listed
 
 
@@ -37,13 +37,19 @@ class StructurallySingular(ValueError):
 
 
 @contextlib.contextmanager
-def needing_diagonal(matrix: Any, columns: Columns) -> Iterator[None]:
-    """Around a call of the library that needs a perfect matching of a matrix, whose columns or rows are given too."""
-    if columns.rows != columns.count:
-        shape = (columns.count, columns.rows) if columns.is_transposed else (columns.rows, columns.count)
-        raise ValueError(f"the matrix must be square, but has the shape {shape}")
+def needing_diagonal(entries: Entries) -> Iterator[None]:
+    """Around a call of the library that needs a perfect matching."""
+    if entries.rows != entries.columns:
+        raise ValueError(f"the matrix must be square, but has the shape {(entries.rows, entries.columns)}")
     try:
         yield
-    except NoPerfectMatching:
-        form = dmperm(matrix)
-        raise StructurallySingular(columns.rows, form.rank, *form.horizontal) from None
+    except Singular:
+        raise _blamed(entries) from None
+
+
+def _blamed(entries: Entries) -> StructurallySingular:
+    """The error of a singular matrix, with its horizontal part."""
+    sizes, rows, columns = Sizes(), entries.room(entries.rows), entries.room(entries.columns)
+    call("decomposition", entries, row_order=rows, column_order=columns, sizes=sizes)
+    rows, columns = rows[: sizes.horizontal_rows].copy(), columns[: sizes.horizontal_columns].copy()
+    return StructurallySingular(entries.rows, sizes.rank, rows, columns)

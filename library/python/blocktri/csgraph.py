@@ -1,10 +1,11 @@
 """The calls of ``scipy.sparse.csgraph`` that ask for a matching, with the same arguments, answers and exceptions.
 
-Which of several maximum matchings is answered may differ. Swap one import::
+If there are several maximum matchings, SciPy may give another one. Swap one import::
 
     from blocktri.csgraph import maximum_bipartite_matching, structural_rank
 
-Weights must be integers. Arrays that are no compressed rows or columns are a `ValueError` here, and indices of 64 bits are taken.
+Weights must be integers. Arrays that are no compressed rows or columns raise a `ValueError` here. Indices may be int64; row and
+column numbers come as int32 all the same, as SciPy gives them, if they fit.
 """
 
 from __future__ import annotations
@@ -17,9 +18,10 @@ import numpy.typing
 from scipy import sparse
 
 from . import _matching
-from ._columns import compressed, whole
-from ._diagonals import heaviest
-from ._library import NoPerfectMatching
+from ._entries import weighted, whole
+from ._library import Singular, call
+
+_Mates = numpy.typing.NDArray[numpy.signedinteger[Any]]
 
 __all__ = ["maximum_bipartite_matching", "min_weight_full_bipartite_matching", "structural_rank"]
 
@@ -39,7 +41,7 @@ def structural_rank(graph: Any) -> int:
     return _matching.structural_rank(graph)
 
 
-def maximum_bipartite_matching(graph: Any, perm_type: str = "row") -> numpy.typing.NDArray[numpy.signedinteger[Any]]:
+def maximum_bipartite_matching(graph: Any, perm_type: str = "row") -> _Mates:
     """As ``scipy.sparse.csgraph.maximum_bipartite_matching``.
 
     Examples
@@ -53,16 +55,14 @@ def maximum_bipartite_matching(graph: Any, perm_type: str = "row") -> numpy.typi
     """
     if not _is_compressed_or_listed(graph):
         raise TypeError("graph must be in CSC, CSR, or COO format.")
-    return _matching.maximum_matching(graph, "column" if perm_type == "column" else "row")
+    return _as_narrow_as_scipys(_matching.maximum_matching(graph, "column" if perm_type == "column" else "row"))
 
 
-def min_weight_full_bipartite_matching(
-    biadjacency_matrix: Any, maximize: bool = False
-) -> tuple[numpy.typing.NDArray[numpy.signedinteger[Any]], numpy.typing.NDArray[numpy.signedinteger[Any]]]:
+def min_weight_full_bipartite_matching(biadjacency_matrix: Any, maximize: bool = False) -> tuple[_Mates, _Mates]:
     """As ``scipy.sparse.csgraph.min_weight_full_bipartite_matching``, for weights that are integers.
 
-    They may stand as floating-point numbers. Weights that are no integers of 64 bits are a `TypeError`; weights that differ by more
-    than ``2**63 - 1``, or by so much that no prices of 64 bits show the answer, are a `ValueError`.
+    They may be stored as floating-point numbers. Weights that are no integers of 64 bits raise a `TypeError`, and weights that
+    differ by more than ``2**63 - 1`` a `ValueError`.
 
     Examples
     --------
@@ -113,18 +113,25 @@ def _best_of_each_place(graph: Any, maximize: bool) -> Any:
     return type(graph)((graph.data[best], (rows[best], graph.indices[best])), shape=graph.shape)
 
 
-def _full_matching(edges: Any, maximize: bool) -> numpy.typing.NDArray[numpy.signedinteger[Any]]:
+def _full_matching(edges: Any, maximize: bool) -> _Mates:
     """The column of each row in the best matching that covers the rows or the columns, or -1."""
     weights = _gains(edges, maximize)
     matrix = type(edges)((weights, edges.indices, edges.indptr), shape=edges.shape)
     if edges.shape[0] != edges.shape[1]:
         matrix = _squared(matrix)
+    transpose, values = weighted(matrix.T)
+    mates = transpose.room(transpose.columns)
     try:
-        mates = heaviest(compressed(matrix), whole(matrix.data)).rows
-    except NoPerfectMatching:
+        call("heaviest", transpose, values=values, row_of_column=mates)
+    except Singular:
         raise ValueError("no full matching exists") from None
-    mates = mates[: edges.shape[0]]
+    mates = _as_narrow_as_scipys(mates[: edges.shape[0]])
     return numpy.where(mates < edges.shape[1], mates, mates.dtype.type(-1))
+
+
+def _as_narrow_as_scipys(mates: _Mates) -> _Mates:
+    """The numbers with 32 bits, as SciPy has them whatever the indices of the graph, unless one of them needs 64."""
+    return mates.astype(numpy.int32, copy=False) if mates.max(initial=0) < 2**31 else mates
 
 
 def _gains(edges: Any, maximize: bool) -> numpy.typing.NDArray[numpy.int64]:

@@ -11,7 +11,13 @@ def drawn(random, most=9, values=(1,)):
     in a dimension."""
     rows, columns = random.integers(0, most, 2, endpoint=True) * (random.random(2) > 0.06)
     density = random.choice((0.1, 0.2, 0.35, 0.6))
-    places = numpy.argwhere(random.random((columns, rows)) < density)
+    return shuffled(random, (random.random((columns, rows)) < density).T, values)
+
+
+def shuffled(random, entries, values=(1,)):
+    """A matrix in CSC with these entries; rows stand in any order, some places twice."""
+    rows, columns = entries.shape
+    places = numpy.argwhere(entries.T)
     twice = numpy.concatenate((places, places[random.random(len(places)) < 0.1]))
     twice = twice[numpy.lexsort((random.random(len(twice)), twice[:, 0]))]
     starts = numpy.concatenate(([0], numpy.cumsum(numpy.bincount(twice[:, 0], minlength=columns))))

@@ -1,5 +1,6 @@
 """What a matrix may be made of: arrays that are read where they stand, arrays that are converted, and arrays that are refused."""
 
+import itertools
 import types
 
 import numpy
@@ -8,7 +9,7 @@ from scipy import sparse
 from scipy.sparse import csgraph
 
 import blocktri
-from blocktri._columns import compressed, signed
+from blocktri._entries import compressed
 from matrices import drawn, in_all_forms, with_wide_indices
 
 CALLS = (blocktri.structural_rank, blocktri.maximum_matching, blocktri.dmperm, lambda a: blocktri.maximum_matching(a, "column"),
@@ -33,7 +34,7 @@ def test_compressed_arrays_are_read_where_they_stand(form, width):
         matrix = with_wide_indices(matrix)
     for readable in (matrix, getattr(sparse, form + "_array")(matrix) if width == 32 else matrix):
         found = compressed(readable)
-        assert found.is_transposed == (form == "csr")
+        assert found.is_by_rows == (form == "csr")
         assert found.starts is readable.indptr or numpy.shares_memory(found.starts, readable.indptr)
         assert numpy.shares_memory(found.ids, readable.indices)
         assert found.starts.itemsize == found.ids.itemsize == width // 8
@@ -183,10 +184,53 @@ def test_a_negative_number_of_32_bits_is_no_row_of_more_than_two_thousand_millio
             blocktri.structural_rank(handmade(starts, ids, (1, 1), form, _shape=shape))
 
 
-def test_numbers_that_need_more_than_32_bits_with_a_sign():
-    found = numpy.array([2**32 - 2, 2**31, 0, 2**32 - 1], numpy.uint32)
-    assert signed(found, 2**32 - 1).tolist() == [2**32 - 2, 2**31, 0, -1]
-    assert signed(found[2:], 2**31 - 1).dtype == numpy.int32 and signed(found[2:], 2**31 - 1).tolist() == [0, -1]
+def lines_of_all(matrix):
+    """All row and column numbers of all calls of a square matrix of full rank."""
+    form, order = blocktri.dmperm(matrix), blocktri.block_order(matrix)
+    yield from (blocktri.maximum_matching(matrix, side, least) for side in ("row", "column") for least in (False, True))
+    yield from (form.p, form.q, form.row_order, form.column_order, *form.horizontal, *form.square, *form.vertical, *form.blocks[0])
+    yield from (order.row_order, order.column_order)
+    yield blocktri.heaviest_diagonal(matrix).rows
+    bottleneck = blocktri.bottleneck_diagonal(matrix)
+    yield from (bottleneck.rows, bottleneck.columns)
+
+
+def test_numbers_have_the_type_of_the_indices():
+    matrix = sparse.csc_matrix(numpy.triu(numpy.ones((3, 3), int)))
+    kinds = "i2 i1 i4, u1 u1 i4, u2 i4 i4, i4 i4 i4, >i4 >i4 i4, i4 i8 i8, i8 i4 i8, i8 i8 i8, u4 i4 i8, u4 u4 i8, u8 u8 i8, >i8 <i8 i8"
+    for form in (sparse.csc_matrix, sparse.csr_matrix):
+        for starts, ids, expected in map(str.split, kinds.split(",")):
+            whole = form(matrix)
+            made = handmade(whole.indptr.astype(starts), whole.indices.astype(ids), (3, 3), form)
+            assert {lines.dtype for lines in lines_of_all(made)} == {numpy.dtype(expected)}
+    for converted in (matrix.tocoo(), matrix.tolil(), matrix.todok(), matrix.todia(), matrix.tobsr(), matrix.toarray()):
+        assert {lines.dtype for lines in lines_of_all(converted)} == {numpy.dtype("i4")}
+
+
+def test_numbers_of_64_bits_are_those_of_32():
+    """So is -1, which stands for no row and no column."""
+    random = numpy.random.default_rng(5)
+    for _ in range(60):
+        matrix = drawn(random)
+        for narrow in (matrix, matrix.tocsr()):
+            wide = with_wide_indices(narrow)
+            assert blocktri.structural_rank(wide) == blocktri.structural_rank(narrow)
+            for side, least in itertools.product(("row", "column"), (False, True)):
+                one, other = (blocktri.maximum_matching(form, side, least) for form in (narrow, wide))
+                assert one.tolist() == other.tolist() and other.dtype == numpy.int64
+            one, other = map(blocktri.dmperm, (narrow, wide))
+            assert one.explain() == other.explain()
+            for name in ("p", "q", "r", "s", "cc", "rr", "row_order", "column_order"):
+                assert getattr(one, name).tolist() == getattr(other, name).tolist()
+
+
+def test_a_row_that_no_signed_number_holds_is_told_as_given():
+    for kind, wrong in (("u4", 2**32 - 1), ("u8", 2**64 - 1), ("u8", 2**63 + 5)):
+        for form, what in ((sparse.csc_matrix, "rows"), (sparse.csr_matrix, "columns")):
+            with pytest.raises(ValueError, match=rf"indices\[1\] is {wrong}, but the matrix has 2 {what}"):
+                blocktri.structural_rank(handmade(numpy.array([0, 1, 2], kind), numpy.array([0, wrong], kind), (2, 2), form))
+    with pytest.raises(ValueError, match=rf"indptr\[1:3\] is \[1, {2**63 + 1}\]"):
+        blocktri.structural_rank(handmade(numpy.array([0, 1, 2**63 + 1], "u8"), numpy.array([0, 1], "u8"), (2, 2)))
 
 
 def test_no_matrices():

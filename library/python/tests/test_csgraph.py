@@ -12,7 +12,7 @@ from scipy import sparse
 from scipy.sparse import csgraph
 
 import blocktri.csgraph
-from matrices import drawn, in_all_forms
+from matrices import drawn, in_all_forms, with_wide_indices
 
 PACKAGE = os.path.dirname(os.path.dirname(os.path.abspath(__file__)))
 TESTS = [os.path.join(os.path.dirname(csgraph.__file__), "tests", f"test_{name}.py") for name in ("matching", "reordering")]
@@ -157,14 +157,29 @@ def test_weights_that_are_no_integers():
         blocktri.csgraph.min_weight_full_bipartite_matching(sparse.csr_matrix([[0.5, 0], [0.5, 0]]))
     with pytest.raises(ValueError, match="differ by more than 9223372036854775807"):
         blocktri.csgraph.min_weight_full_bipartite_matching(sparse.csr_matrix([[-(2**62) - 1, 1], [1, 2**62]]))
-    large = 2**63 - 1  # in each row but the first, left of a diagonal that is the only one
-    matrix = sparse.csr_matrix(([1, large, 1, large, 1, large, 1], [0, 0, 1, 1, 2, 2, 3], [0, 1, 3, 5, 7]))
-    with pytest.raises(ValueError, match="a price needs more than 64 bits"):
-        blocktri.csgraph.min_weight_full_bipartite_matching(matrix, maximize=True)
     with pytest.raises(ValueError, match="expected a matrix containing numerical entries, got <U1"):
         matrix = sparse.csr_matrix([[1]])
         matrix.data = matrix.data.astype("U1")
         blocktri.csgraph.min_weight_full_bipartite_matching(matrix)
+
+
+def test_no_prices_are_asked_for():
+    large = 2**63 - 1  # in each row but the first, left of a diagonal that is the only one: no prices of 64 bits prove it heaviest
+    for form in (sparse.csr_matrix, sparse.csc_matrix):
+        matrix = form(sparse.csr_matrix(([1, large, 1, large, 1, large, 1], [0, 0, 1, 1, 2, 2, 3], [0, 1, 3, 5, 7])))
+        rows, columns = blocktri.csgraph.min_weight_full_bipartite_matching(matrix, maximize=True)
+        assert rows.tolist() == columns.tolist() == [0, 1, 2, 3]
+        with pytest.raises(ValueError, match="a price needs more than 64 bits"):
+            blocktri.heaviest_diagonal(matrix)
+
+
+def test_numbers_have_32_bits_as_scipys():
+    wide = with_wide_indices(sparse.csr_matrix([[1, 2, 0], [0, 1, 3]]))
+    for matrix in (wide, with_wide_indices(wide.tocsc())):
+        for side in ("row", "column"):
+            assert blocktri.csgraph.maximum_bipartite_matching(matrix, side).dtype == numpy.int32
+        found = blocktri.csgraph.min_weight_full_bipartite_matching(matrix)
+        assert [lines.dtype for lines in found] == [numpy.int64, numpy.int32]  # as SciPy's of the narrow matrix
 
 
 def test_weights_beyond_those_that_floating_point_numbers_tell_apart():

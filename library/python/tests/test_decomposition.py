@@ -115,6 +115,37 @@ def test_each_format():
             assert_form(blocktri.dmperm(form), pattern(form))
 
 
+def assert_dmperm(form, entries):
+    """What each of the six lists is made of, by the sizes of the parts and blocks."""
+    p, q, r, s, cc, rr = form
+    rows, columns = entries.shape
+    top, left = map(len, form.horizontal)
+    square = len(form.square.rows)
+    unmatched = columns - form.rank
+    assert rr.tolist() == [0, top, top + square, form.rank, rows]
+    assert cc.tolist() == [0, unmatched, left, left + square, columns]
+    assert sorted(p) == list(range(rows)) and sorted(q) == list(range(columns))
+    assert entries[p[: form.rank], q[unmatched:]].all()
+    for rising in (q[:unmatched], q[unmatched:left], q[left + square :], p[form.rank :], *(block.columns for block in form.blocks)):
+        assert (numpy.diff(rising) > 0).all()
+    assert q[left : left + square].tolist() == [column for block in form.blocks for column in block.columns]
+    heights = [top] * (left > 0) + form.blocks.sizes().tolist() + [rows - top - square] * (rows > top + square)
+    widths = [left] * (left > 0) + form.blocks.sizes().tolist() + [columns - left - square] * (rows > top + square)
+    assert r.tolist() == [0, *numpy.cumsum(heights, dtype=int)] and s.tolist() == [0, *numpy.cumsum(widths, dtype=int)]
+
+
+@pytest.mark.parametrize("form", [sparse.csc_matrix, sparse.csr_matrix])
+def test_the_six_lists_of_rectangles(form):
+    random = numpy.random.default_rng(6)
+    for rows, columns in ((7, 12), (12, 7), (10, 10), (1, 9), (9, 1), (30, 40), (40, 30)):
+        for density in (0.05, 0.1, 0.2, 0.3):
+            for _ in range(5):
+                entries = random.random((rows, columns)) < density
+                found = blocktri.dmperm(form(entries))
+                assert found.rank == rank(entries)
+                assert_dmperm(found, entries)
+
+
 def test_square_matrices_with_many_blocks():
     random = numpy.random.default_rng(5)
     for size in (1, 2, 5, 20, 60):
@@ -152,3 +183,4 @@ def test_the_empty_shapes():
     for shape in ((0, 0), (0, 3), (3, 0)):
         for form in (sparse.csc_matrix(shape), sparse.csr_matrix(shape)):
             assert_form(blocktri.dmperm(form), numpy.zeros(shape, bool))
+            assert_dmperm(blocktri.dmperm(form), numpy.zeros(shape, bool))

@@ -12,6 +12,7 @@ import tarfile
 import textwrap
 import zipfile
 
+import numpy
 import pytest
 
 HERE = os.path.dirname(os.path.abspath(__file__))
@@ -19,6 +20,7 @@ PACKAGE = os.path.dirname(HERE)
 sys.path.insert(0, PACKAGE)
 import backend  # noqa: E402
 from blocktri import _library  # noqa: E402
+from blocktri._entries import compressed  # noqa: E402
 
 LOADED = _library._load()
 FILE = LOADED._name
@@ -78,20 +80,71 @@ def test_the_library_has_the_version_of_the_package():
         numbers = dict(re.findall("^(VERSION|ABI) = (.*)$", file.read(), re.MULTILINE))
     assert numbers["VERSION"] == backend._version()
     assert f'"libblocktri.so.{numbers["ABI"]}"' in inspect.getsource(_library._load)
+    assert numbers["VERSION"].partition(".")[0] == str(_library._MAJOR)
+
+
+def header():
+    """The header without its comments."""
+    with open(os.path.join(PACKAGE, "..", "blocktri.h")) as file:
+        return re.sub(r"/\*.*?\*/", "", file.read(), flags=re.DOTALL)
+
+
+@pytest.mark.parametrize("name", _library._CALLS)
+def test_calls_take_what_the_header_declares(name):
+    values = ["values"] if name in _library._WITH_VALUES else []
+    expected = ["rows", "columns", "starts", "ids", "ids_length", *values, "flags", *_library._CALLS[name], "fault"]
+    for width, index, ending in ((4, "int32_t", ""), (8, "int64_t", "_64")):
+        arguments = re.search(rf"int32_t blocktri_{name}{ending}\((.*?)\);", header(), re.DOTALL)[1].split(",")
+        assert [re.search(r"\w+$", argument)[0] for argument in arguments] == expected
+        kinds = {index: getattr(ctypes, "c_" + index[:-2]), "uint32_t": ctypes.c_uint32}
+        assert _library._FUNCTIONS[name, width].argtypes == [
+            ctypes.c_void_p if "*" in argument else kinds[argument.split()[0]] for argument in arguments]
+
+
+def test_structs_are_those_of_the_header():
+    for name, struct in (("sizes", _library.Sizes), ("sum", _library.Sum)):
+        declared = re.search(rf"struct blocktri_{name} {{(.*?)}}", header(), re.DOTALL)[1]
+        members = re.findall(r"(\w+)_t (\w+)(?:\[(\d)\])?;", declared)
+        kinds = [(member, getattr(ctypes, "c_" + kind), int(length or 0)) for kind, member, length in members]
+        assert struct._fields_ == [(member, kind * length if length else kind) for member, kind, length in kinds]
+    assert _library.Sizes().size == ctypes.sizeof(_library.Sizes)
+
+
+def test_only_what_a_call_writes_can_be_asked_for():
+    with pytest.raises(TypeError, match="blocktri_rank writes no size"):
+        _library.call("rank", compressed([[1]]), size=numpy.empty(1, numpy.int32))
+
+
+def test_a_status_that_the_package_does_not_know_has_the_librarys_words():
+    with pytest.raises(RuntimeError, match="libblocktri answered with the status 25: an argument cannot be taken"):
+        _library.call("rank", compressed([[1]]), _library.LEAST)
 
 
 def test_a_library_that_is_not_there_or_not_right(tmp_path):
     _, error = run("import blocktri", BLOCKTRI_LIBRARY=str(tmp_path / "none.so"))
     assert error.startswith("ImportError: the shared library of blocktri can't be loaded: ") and "none.so" in error
     _, error = run("import blocktri", BLOCKTRI_LIBRARY="libc.so.6")
-    assert error.startswith("ImportError: the shared library is older than this package: ") and "blocktri_rank" in error
+    assert error.startswith("ImportError: the shared library is older than this package, which needs version 1: ")
+    assert "blocktri_version" in error
+
+
+@pytest.mark.skipif(shutil.which("gcc") is None, reason="there is no gcc")
+def test_a_library_of_another_version(tmp_path):
+    file = tmp_path / "of_another_version.so"
+    older = f"is older than this package, which needs version 1: {file}: undefined symbol: blocktri_rank"
+    for version, words in ((999_999, f"{file} has the version 0.999.999, but this package needs version 1"),
+                           (2_003_004, f"{file} has the version 2.3.4, but this package needs version 1"), (1_000_000, older)):
+        command = ["gcc", "-shared", "-fPIC", "-o", file, "-x", "c", "-"]
+        subprocess.run(command, input=f"int blocktri_version(void) {{ return {version}; }}", text=True, check=True)
+        _, error = run("import blocktri", BLOCKTRI_LIBRARY=str(file))
+        assert error.startswith("ImportError: the shared library ") and error.endswith(words)
 
 
 @pytest.mark.skipif(not os.path.exists(FILE), reason="the library lies where only the loader finds it")
 def test_the_systems_loader_finds_the_library(tmp_path):
     shutil.copytree(backend.PACKAGE, tmp_path / "blocktri", ignore=shutil.ignore_patterns(backend.LIBRARY, "__pycache__"))
     (tmp_path / "folder").mkdir()
-    shutil.copy(FILE, tmp_path / "folder" / "libblocktri.so.0")
+    shutil.copy(FILE, tmp_path / "folder" / "libblocktri.so.1")
     printed = run("import blocktri; print(blocktri.structural_rank([[1]]))", str(tmp_path), LD_LIBRARY_PATH=str(tmp_path / "folder"))
     assert printed == ("1\n", "")
 
@@ -109,17 +162,16 @@ def test_without_scipy():
             matrix = types.SimpleNamespace(format=form, shape=(2, 2), indptr=[0, 1, 2], indices=[1, 0])
             print(blocktri.structural_rank(matrix), blocktri.maximum_matching(matrix), len(blocktri.dmperm(matrix).blocks))
             matrix.data = [3, 4]
-            print(blocktri.heaviest_diagonal(matrix).sum)
-        for refused in (lambda: blocktri.structural_rank([[1]]), lambda: blocktri.maximum_matching(matrix, least=True),
-                        lambda: blocktri.bottleneck_diagonal(matrix)):
-            try:
-                refused()
-            except TypeError as error:
-                print(error)
+            print(blocktri.heaviest_diagonal(matrix).sum, blocktri.bottleneck_diagonal(matrix).least)
+            print(blocktri.maximum_matching(matrix, least=True), blocktri.block_order(matrix).block_starts)
+        try:
+            blocktri.structural_rank([[1]])
+        except TypeError as error:
+            print(error)
     """, BLOCKTRI_LIBRARY=FILE)
-    words = "without SciPy a matrix must be in one of the formats "
     assert error == ""
-    assert printed.splitlines() == ["2 [1 0] 2", "7"] * 2 + [words + "csc, csr", words + "csc", words + "csc"]
+    assert printed.splitlines() == ["2 [1 0] 2", "7 3", "[1 0] [0 1 2]"] * 2 + \
+        ["without SciPy a matrix must be in one of the formats csc, csr"]
 
 
 def test_what_the_pages_show(monkeypatch):

@@ -1,5 +1,5 @@
 use Rattle.std.proofs.Common.{subst}
-use Rattle.blocktri.proofs.DiagonalLemmas.{rectangular_none, singular_none}
+use Rattle.blocktri.proofs.DiagonalLemmas.{square_singular}
 use Rattle.bottleneck.specs.Answers.{IsBottleneck}
 use Rattle.blocktri.proofs.bottleneck_matching.best_matching.Goals as goal
 
@@ -8,10 +8,10 @@ returns-in-Ok-Rectangular-clause-refused g c =
     let w = c.in_ok-weights.weights in (
       tt,
       record {
-        columns = c.in_ok-pattern.ensures.columns;
+        compressed = c.in_ok-pattern.ensures.compressed;
         weighing = w;
         weights = c.in_ok-weights.ensures.weights;
-        holds = rectangular_none w.matrix (subst (IsBottleneck w) c.in-Ok-Rectangular.field-0-is c.in-Ok-Rectangular.ensures);
+        holds = subst (IsBottleneck w) c.in-Ok-Rectangular.field-0-is c.in-Ok-Rectangular.ensures;
       },
     )
 
@@ -20,9 +20,9 @@ returns-in-Ok-Singular-clause-refused g c =
     let w = c.in_ok-weights.weights in (
       tt,
       record {
-        columns = c.in_ok-pattern.ensures.columns;
+        compressed = c.in_ok-pattern.ensures.compressed;
         weighing = w;
         weights = c.in_ok-weights.ensures.weights;
-        holds = singular_none w.matrix c.in-Ok-Singular.field-0-0 c.in-Ok-Singular.field-0-1.items (subst (IsBottleneck w) c.in-Ok-Singular.field-0-is c.in-Ok-Singular.ensures);
+        holds = square_singular w.matrix c.in-Ok-Singular.field-0-0 c.in-Ok-Singular.field-0-1.items (subst (IsBottleneck w) c.in-Ok-Singular.field-0-is c.in-Ok-Singular.ensures);
       },
     )

@@ -1,7 +1,8 @@
-use Rattle.std.proofs.Common.{◌-◌, length}
+use Rattle.std.proofs.Common.{◌∙◌, ◌-◌, length, sym}
 use Rattle.sp_pattern.specs.Columns.{matrix_of, places_of}
+use Rattle.bip_defs.proofs.Connected.{same_components}
 use Rattle.bip_defs.proofs.Uniqueness.{same_decomposition, same_rank}
-use Rattle.blocktri.proofs.LawLemmas.{same_components_told, same_least, same_places, same_sizes_told, same_told}
+use Rattle.blocktri.proofs.LawLemmas.{same_least, same_places, same_sizes}
 use Rattle.blocktri.proofs.laws.answers_are_those_of_a_file.Goals as goal
 
 pub returns-clause-matrix : goal.returns-clause-matrix
@@ -11,13 +12,14 @@ pub returns-clause-rank : goal.returns-clause-rank
 returns-clause-rank c = same_rank
 
 pub returns-clause-decomposition : goal.returns-clause-decomposition
-returns-clause-decomposition c = λ a s t rows columns starts rows2 columns2 starts2 old x y. same_told a s t rows columns starts rows2 columns2 starts2 old (same_decomposition a) x y
-
-pub returns-clause-sizes : goal.returns-clause-sizes
-returns-clause-sizes c = λ a s t xs ys zs xs2 ys2 zs2 xs3 ys3 xs4 ys4 old x k y l. same_sizes_told a s t xs ys zs xs2 ys2 zs2 xs3 ys3 xs4 ys4 old (same_decomposition a) x k y l
+returns-clause-decomposition c = λ a j k old new old2 new2 t u. same_decomposition a t.decomposition u.decomposition t.is_decomposition u.is_decomposition
 
 pub returns-clause-components : goal.returns-clause-components
-returns-clause-components c = same_components_told
+returns-clause-components c = λ a s t xs rows ys columns xs2 rows2 ys2 columns2 x y. same_components a x.components y.components x.are_components y.are_components
+
+pub returns-clause-sizes : goal.returns-clause-sizes
+returns-clause-sizes c = same_sizes
 
 pub returns-clause-least_matching : goal.returns-clause-least_matching
-returns-clause-least_matching c = same_least
+returns-clause-least_matching c = λ a j k xs rows ys columns xs2 rows2 ys2 columns2 t u.
+    let here = same_least a j xs rows ys columns u.pairs t u.are_pairs in (here.0 ∙ sym u.size_is, here.1)

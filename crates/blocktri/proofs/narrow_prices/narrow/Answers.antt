@@ -17,7 +17,7 @@ returns-clause-fair c = λ h.
     low_fair w m c.least_row_prices.new.u.items c.write_column_prices.new.v.items full low enough (c.write_column_prices.ensures.long ∙ c.requires.fair.by_col) prices
 
 pub returns-clause-narrow : goal.returns-clause-narrow
-returns-clause-narrow c = λ h.
+returns-clause-narrow c = λ h asked.
     let w = c.args.weights.now in
     let m = c.args.pairs.now in
     let full : IsFull w.matrix m = c.requires.diagonal.full in

@@ -1,0 +1,83 @@
+//! Matrices with entries all along the diagonal.
+
+ghost use Rattle.std.specs.Prelude.{◌≡◌, ◌↔◌, ℕ, ◌<◌, ◌≤◌, IfNone, IfOk, IfSome, IsTrue, length};
+ghost use Rattle.std.specs.List.{slice_range};
+ghost use Rattle.bip_defs.specs.Lists.{Among};
+ghost use Rattle.bip_graph.specs.Matching.{IsMaximumOf, IsPairing};
+ghost use Rattle.blocktri.specs.Compressed.{AreCompressed, listed, matrix_given};
+ghost use Rattle.blocktri.specs.Diagonal.{HasDiagonal, IsDiagonalFull};
+
+use crate::compressed::Compressed;
+use bip_graph::Matching;
+use sp_ids::{Col, OutOfMemory, Row};
+use sp_pattern::{NumberList, columns_give_their_places};
+use std::alloc::Global;
+
+/// The matching of the diagonal, where each of its places is an entry. It is maximum.
+///
+/// Returns `OutOfMemory` if it cannot allocate 4 bytes a row and 4 a column. Work: one look at each
+/// number at most, up to the first column without its entry of the diagonal.
+pub fn full_diagonal<N: NumberList>(
+    alloc: Global,
+    matrix: &Compressed<N>,
+) -> Result<Option<Matching>, OutOfMemory>
+    requires { AreCompressed matrix.now }
+    ensures maximum { IfOk result (λ o. IfSome o (IsMaximumOf (matrix_given matrix.now))) }
+    ensures diagonal { IfOk result (λ o. IfSome o
+        (λ m. HasDiagonal (matrix_given matrix.now) m.pairs)) }
+    ensures none { IfOk result (λ o. IfNone o (¬ IsDiagonalFull (matrix_given matrix.now))) }
+{
+    if !is_diagonal_full(matrix) {
+        return Ok(None);
+    }
+    let matching = diagonal(alloc, matrix.rows() as u32, matrix.columns() as u32)?;
+    Ok(Some(matching))
+}
+
+// Whether each place of the diagonal is an entry.
+fn is_diagonal_full<N: NumberList>(matrix: &Compressed<N>) -> bool
+    requires { AreCompressed matrix.now }
+    ensures { IsTrue result ↔ IsDiagonalFull (listed matrix.now) }
+{
+    columns_give_their_places();
+    let others = matrix.others as usize;
+    let lists = matrix.starts.len() - 1;
+    let sides = if others < lists { others } else { lists };
+    for side in 0..sides {
+        let from = matrix.starts.at(side) as usize;
+        let to = matrix.starts.at(side + 1) as usize;
+        if !has_id(matrix.ids, from, to, side as u64) {
+            return false;
+        }
+    }
+    true
+}
+
+// Whether a number is one of those from one place to before another.
+fn has_id<N: NumberList>(ids: N, from: usize, to: usize, id: u64) -> bool
+    requires { to ≤ length (N.numbers ids) }
+    ensures { IsTrue result ↔ Among id (slice_range (N.numbers ids) from to) }
+{
+    for at in from..to {
+        if ids.at(at) == id {
+            return true;
+        }
+    }
+    false
+}
+
+// The pairs of all places of the diagonal.
+fn diagonal(alloc: Global, rows: u32, cols: u32) -> Result<Matching, OutOfMemory>
+    ensures rows { IfOk result (λ m. m.rows ≡ rows) }
+    ensures cols { IfOk result (λ m. m.cols ≡ cols) }
+    ensures pairing { IfOk result IsPairing }
+    ensures pairs { IfOk result (λ m. (r c : ℕ)
+        → Among (r, c) m.pairs ↔ ((r ≡ c) × (r < rows) × (c < cols))) }
+{
+    let mut matching = Matching::empty(alloc, rows, cols)?;
+    let sides = if rows < cols { rows } else { cols };
+    for side in 0..sides {
+        matching.pair(Row(side), Col(side));
+    }
+    Ok(matching)
+}
