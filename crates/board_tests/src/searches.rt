@@ -47,10 +47,10 @@ const MATES: [u32; 11] = [3, 2, 6, 0, 4, 8, 9, 5, 10, 1, 7];
 // Nine levels and two exchanges, in each of which each worker arrives once.
 const ARRIVALS: u64 = 11;
 
-// No work is worth threads, and all work is.
+// No work is worth threads, and all work is that has an item.
 const IN_TURN: u32 = u32::MAX;
 
-const ON_THREADS: u32 = 0;
+const ON_THREADS: u32 = 1;
 
 // So many looks are enough where nobody is to come. On a busy machine each takes long.
 const FEW_TURNS: u32 = 100;
