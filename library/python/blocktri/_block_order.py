@@ -2,50 +2,81 @@
 
 from __future__ import annotations
 
-from typing import Any, NamedTuple
+from typing import NamedTuple
 
 import numpy
 
-from ._decomposition import Lines
+from . import _html
 from ._entries import compressed
 from ._library import call
 from ._singular import needing_diagonal
+from ._types import Lines, Matrix
 
 
 class BlockOrder(NamedTuple):
-    """Orders in which a matrix is block upper triangular, and has an entry all along its diagonal.
+    """Orders in which a matrix is block upper triangular, with an entry at each place of the diagonal.
 
-    Block b of ``A[row_order][:, column_order]`` has the rows and columns from ``block_starts[b]`` up to ``block_starts[b + 1]``.
+    `block_order` returns it. It unpacks as ``p, q, r``.
+
+    Attributes
+    ----------
+    row_order, column_order : ndarray of integers
+        The rows and the columns in their orders: ``A[row_order][:, column_order]`` is the form.
+    block_starts : ndarray of integers
+        Block b of the form has the rows and columns from ``block_starts[b]`` up to ``block_starts[b + 1]``.
     """
 
     row_order: Lines
     column_order: Lines
     block_starts: Lines
 
+    def _repr_html_(self) -> str:
+        sizes = numpy.diff(self.block_starts)
+        facts = [("size", len(self.row_order)), ("blocks", len(sizes)), ("largest block", int(sizes.max(initial=0)))]
+        return _html.table("Block triangular form", facts)
 
-def block_order(matrix: Any) -> BlockOrder:
-    """The block triangular form of a square matrix of full structural rank, as KLU asks it of SuiteSparse's ``btf_order``.
 
-    The blocks are the fine blocks of `dmperm`, in the same order. A full diagonal is kept, as by `maximum_matching`.
+def block_order(matrix: Matrix) -> BlockOrder:
+    """Find the block triangular form of a square matrix of full structural rank.
+
+    It is what a sparse LU factorisation by blocks needs, as KLU gets it from SuiteSparse's ``btf_order``.
 
     Parameters
     ----------
     matrix : sparse matrix or array, or array_like
-        The package reads CSC and CSR in place; SciPy converts any other format. A stored zero is an entry.
+        A square matrix. The package reads CSC and CSR in place, and converts any other format. A stored zero is an entry.
 
     Returns
     -------
     BlockOrder
-        It unpacks as ``p, q, r``. Row and column numbers have the type of the indices of `matrix`, int32 or int64.
+        Row and column numbers have the type of the indices of `matrix`, int32 or int64.
 
     Raises
     ------
     StructurallySingular
         If the structural rank is less than the size.
     ValueError
-        If `matrix` is not square, or its arrays are no compressed columns or rows.
+        If `matrix` is not square, or its arrays are not compressed columns or rows.
+    TypeError
+        If its indices are not integers.
     MemoryError
         If there is not enough memory.
+
+    See Also
+    --------
+    dmperm : For matrices of any shape and rank.
+
+    Notes
+    -----
+    The blocks are the fine blocks of `dmperm`, in the same order, and so are the columns. Only which rows stand beside the columns
+    of a block depends on the matching that is found. A full diagonal is kept, as by `maximum_matching`.
+
+    References
+    ----------
+    .. [1] I. S. Duff and J. K. Reid, "An implementation of Tarjan's algorithm for the block triangularization of a matrix", ACM
+       Transactions on Mathematical Software, 4(2), 1978, 137-147.
+    .. [2] T. A. Davis and E. Palamadai Natarajan, "Algorithm 907: KLU, a direct sparse solver for circuit simulation problems",
+       ACM Transactions on Mathematical Software, 37(3), 2010, 36.
 
     Examples
     --------

@@ -4,30 +4,42 @@ from __future__ import annotations
 
 from collections.abc import Iterator, Sequence
 from dataclasses import dataclass, field
-from typing import TYPE_CHECKING, Any, NamedTuple, overload
+from typing import TYPE_CHECKING, NamedTuple, overload
 
 import numpy
-import numpy.typing
 
-from . import _picture, _words
+from . import _picture, _svg, _words
 from ._entries import Entries, compressed
 from ._library import MOST, Sizes, call
+from ._types import Lines, Matrix
 
 if TYPE_CHECKING:
     from matplotlib.axes import Axes
 
-Lines = numpy.typing.NDArray[numpy.integer[Any]]
-
 
 class Part(NamedTuple):
-    """The rows and the columns of a part or a block, by their numbers in the matrix."""
+    """The rows and the columns of a part or a block, by their numbers in the matrix.
+
+    Attributes
+    ----------
+    rows, columns : ndarray of integers
+        The numbers of the rows and of the columns.
+    """
 
     rows: Lines
     columns: Lines
 
 
 class Parts(Sequence[Part]):
-    """Parts that stand behind one another, each as a `Part` that is made when it is asked for."""
+    """A sequence of parts, each of which is a `Part` that is made when it is asked for.
+
+    Parameters
+    ----------
+    whole : Part
+        The rows and columns of all parts, part by part.
+    row_starts, column_starts : ndarray of integers
+        Where each part begins in the rows and in the columns of `whole`, and where the last one ends.
+    """
 
     def __init__(self, whole: Part, row_starts: Lines, column_starts: Lines) -> None:
         self._whole, self._row_starts, self._column_starts = whole, row_starts, column_starts
@@ -52,21 +64,36 @@ class Parts(Sequence[Part]):
 
 
 class Blocks(Parts):
-    """The fine blocks in their order, each as a `Part` that is made when it is asked for."""
+    """The fine blocks in their order, each of which is a `Part` that is made when it is asked for.
+
+    Parameters
+    ----------
+    square : Part
+        The rows and columns of all blocks, block by block.
+    starts : ndarray of integers
+        Where each block begins in them, and where the last one ends.
+    """
 
     def __init__(self, square: Part, starts: Lines) -> None:
         super().__init__(square, starts, starts)
 
     def sizes(self) -> Lines:
-        """How many rows, and so columns, each block has."""
+        """Count the rows, and so the columns, of each block.
+
+        Returns
+        -------
+        ndarray of integers
+            The size of each block, in their order.
+        """
         return numpy.diff(self._row_starts)
 
 
 @dataclass(frozen=True, eq=False, repr=False)
 class Decomposition:
-    """The Dulmage-Mendelsohn decomposition of a matrix, as `dmperm` answers it.
+    """The Dulmage-Mendelsohn decomposition of a matrix.
 
-    Row and column numbers count from 0. It unpacks as in MATLAB: ``p, q, r, s, cc, rr = blocktri.dmperm(A)``.
+    `dmperm` returns it. Row and column numbers count from 0. It unpacks as in MATLAB: ``p, q, r, s, cc, rr = blocktri.dmperm(A)``.
+    A notebook shows its sizes, its picture and `explain`.
 
     Attributes
     ----------
@@ -120,7 +147,7 @@ class Decomposition:
     s: Lines
     cc: Lines
     rr: Lines
-    _matrix: Any = field(repr=False)
+    _matrix: Matrix = field(repr=False)
 
     def __iter__(self) -> Iterator[Lines]:
         return iter((self.p, self.q, self.r, self.s, self.cc, self.rr))
@@ -132,8 +159,28 @@ class Decomposition:
         return (f"<Decomposition of a {self.shape[0]} x {self.shape[1]} matrix: rank {self.rank}, "
                 f"{', '.join(outer)}, square {len(self.square.rows)} in {blocks}>")
 
+    def _repr_html_(self) -> str:
+        return _svg.page(self)
+
+    def svg(self) -> str:
+        """Draw the matrix in its block form, as a picture in SVG.
+
+        The horizontal part is orange, the square part green, the vertical part red, and blocks are outlined. The picture has at most
+        320 cells in each direction. In a large matrix a cell covers many places, and is darker the more entries it holds.
+
+        Returns
+        -------
+        str
+            The text of the picture. It needs no Matplotlib.
+
+        Notes
+        -----
+        The entries are those that the matrix has now: it is kept, not copied.
+        """
+        return _svg.picture(self)
+
     def spy(self, ax: Axes | None = None) -> Axes:
-        """Draws the matrix in its block form by Matplotlib, with parts and blocks outlined.
+        """Draw the matrix in its block form by Matplotlib, with parts and blocks outlined.
 
         The entries are those that the matrix has now: it is kept, not copied.
 
@@ -156,18 +203,19 @@ class Decomposition:
         column_names: Sequence[object] | None = None,
         at_most: int = 20,
     ) -> str:
-        """Says in words which equations and unknowns make the matrix singular, piece by piece.
+        """Say in words which equations and unknowns make the matrix singular, piece by piece.
 
         Parameters
         ----------
         row_names, column_names : sequence, optional
-            A name for each equation and for each unknown; their numbers, from 0 on, where they are left out.
-        at_most : int
-            How many pieces are told of, and how many equations and unknowns of each are named.
+            A name for each equation and for each unknown. The default is their numbers, from 0 on.
+        at_most : int, optional
+            The most pieces to list, and the most equations and unknowns of each to name. The default is 20.
 
         Returns
         -------
         str
+            Some lines of text.
 
         Raises
         ------
@@ -177,17 +225,13 @@ class Decomposition:
         return _words.explain(self, row_names, column_names, at_most)
 
 
-def dmperm(matrix: Any) -> Decomposition:
-    """The Dulmage-Mendelsohn decomposition, with the fine blocks of its square part.
-
-    Each matrix has one decomposition, whatever its format. `row_order` and `column_order` are the orders of the command
-    ``btf analyse --order``. Only `p` and `q` depend on which maximum matching is found, of which there may be several. They keep a
-    full diagonal, as `maximum_matching` does.
+def dmperm(matrix: Matrix) -> Decomposition:
+    """Compute the Dulmage-Mendelsohn decomposition, with the fine blocks of its square part.
 
     Parameters
     ----------
     matrix : sparse matrix or array, or array_like
-        The package reads CSC and CSR in place; SciPy converts any other format. A stored zero is an entry.
+        A matrix of any shape. The package reads CSC and CSR in place, and converts any other format. A stored zero is an entry.
 
     Returns
     -------
@@ -197,9 +241,29 @@ def dmperm(matrix: Any) -> Decomposition:
     Raises
     ------
     ValueError
-        If the arrays of `matrix` are no compressed columns or rows.
+        If the arrays of `matrix` are not compressed columns or rows.
+    TypeError
+        If its indices are not integers.
     MemoryError
         If there is not enough memory.
+
+    See Also
+    --------
+    block_order : The block triangular form alone, of a matrix of full structural rank.
+    structural_rank : The structural rank alone.
+
+    Notes
+    -----
+    Each matrix has one decomposition, whatever its format. `row_order` and `column_order` are the orders of the command
+    ``btf analyse --order``. Only `p` and `q` depend on which maximum matching is found, of which there may be several. They keep a
+    full diagonal, as `maximum_matching` does.
+
+    References
+    ----------
+    .. [1] A. L. Dulmage and N. S. Mendelsohn, "Coverings of bipartite graphs", Canadian Journal of Mathematics, 10, 1958,
+       517-534.
+    .. [2] A. Pothen and C.-J. Fan, "Computing the block triangular form of a sparse matrix", ACM Transactions on Mathematical
+       Software, 16(4), 1990, 303-324.
 
     Examples
     --------

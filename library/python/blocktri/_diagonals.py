@@ -2,68 +2,108 @@
 
 from __future__ import annotations
 
-from typing import Any, NamedTuple
+from typing import NamedTuple
 
 import numpy
-import numpy.typing
 
-from ._decomposition import Lines
+from . import _html
 from ._entries import weighted
 from ._library import Sum, call
 from ._singular import needing_diagonal
+from ._types import Lines, Matrix, Numbers
 
 
 class HeaviestDiagonal(NamedTuple):
     """A perfect matching whose weights have the greatest sum, with prices that prove it.
 
-    Each weight is at most the price of its row and the price of its column together, and those of the diagonal are equal to
-    them. So no diagonal weighs more than all prices together, and this one does weigh that.
+    `heaviest_diagonal` returns it. Each entry weighs at most the price of its row and the price of its column together, and each
+    pair of the matching exactly that. So no diagonal weighs more than all prices together, which is what this one weighs.
+
+    Attributes
+    ----------
+    rows : ndarray of integers
+        The row of each column: ``A[rows]`` has the matching on its diagonal.
+    row_prices, column_prices : ndarray of int64
+        A price for each row and for each column.
+    sum : int
+        The sum of the weights of the matching.
     """
 
-    #: the row of each column: ``A[rows]`` has the diagonal in its place
     rows: Lines
-    row_prices: numpy.typing.NDArray[numpy.int64]
-    column_prices: numpy.typing.NDArray[numpy.int64]
+    row_prices: Numbers
+    column_prices: Numbers
     sum: int
+
+    def _repr_html_(self) -> str:
+        return _html.table("Heaviest diagonal", [("size", len(self.rows)), ("sum", self.sum)])
 
 
 class BottleneckDiagonal(NamedTuple):
     """A perfect matching whose least weight is greatest, with columns that prove it.
 
-    The columns have entries above the least weight in fewer rows than they are, so each diagonal takes an entry of one of them that
-    is no greater.
+    `bottleneck_diagonal` returns it. The columns have entries of a weight above `least` in fewer rows than they are. So each
+    perfect matching pairs one of them by an entry of weight `least` or less.
+
+    Attributes
+    ----------
+    rows : ndarray of integers
+        The row of each column: ``A[rows]`` has the matching on its diagonal.
+    least : int
+        The least weight of the matching, which is 0 if the matrix is empty.
+    columns : ndarray of integers
+        The columns that prove it, in rising order.
     """
 
-    #: the row of each column: ``A[rows]`` has the diagonal in its place
     rows: Lines
     least: int
     columns: Lines
 
+    def _repr_html_(self) -> str:
+        facts = [("size", len(self.rows)), ("least weight", self.least), ("columns that prove it", len(self.columns))]
+        return _html.table("Bottleneck diagonal", facts)
 
-def heaviest_diagonal(matrix: Any) -> HeaviestDiagonal:
-    """A diagonal of an integer matrix with the greatest sum of magnitudes: one entry in each row and each column.
+
+def heaviest_diagonal(matrix: Matrix) -> HeaviestDiagonal:
+    """Find a diagonal of an integer matrix whose magnitudes have the greatest sum.
+
+    A diagonal is a perfect matching: one entry in each row and each column.
 
     Parameters
     ----------
     matrix : sparse matrix or array, or array_like
         A square matrix of integers of 64 bits, which may be stored as floating-point numbers. The package reads CSC and CSR in
-        place; SciPy converts any other format. A stored zero is an entry. Values given for one place are added up.
+        place, and converts any other format. A stored zero is an entry. Values given for one place are added up.
 
     Returns
     -------
     HeaviestDiagonal
+        Row and column numbers have the type of the indices of `matrix`, int32 or int64.
 
     Raises
     ------
-    TypeError
-        If the values are no integers of 64 bits.
     StructurallySingular
         If the structural rank is less than the size.
     ValueError
-        If `matrix` is not square, its arrays are no compressed columns or rows, or a sum of values or a price needs more than
+        If `matrix` is not square, its arrays are not compressed columns or rows, or a sum of values or a price needs more than
         64 bits.
+    TypeError
+        If the values are not integers of 64 bits, or the indices are not integers.
     MemoryError
         If there is not enough memory.
+
+    See Also
+    --------
+    bottleneck_diagonal : For a great least magnitude in place of a great sum.
+    blocktri.csgraph.min_weight_full_bipartite_matching : For weights with a sign, and matrices that are not square.
+
+    Notes
+    -----
+    The sum may need more than 64 bits; it is exact. It is what MC64's job 4 asks for.
+
+    References
+    ----------
+    .. [1] I. S. Duff and J. Koster, "On algorithms for permuting large entries to the diagonal of a sparse matrix", SIAM Journal on
+       Matrix Analysis and Applications, 22(4), 2001, 973-996.
 
     Examples
     --------
@@ -81,29 +121,45 @@ def heaviest_diagonal(matrix: Any) -> HeaviestDiagonal:
     return HeaviestDiagonal(rows, row_prices, column_prices, total.high << 64 | total.low)
 
 
-def bottleneck_diagonal(matrix: Any) -> BottleneckDiagonal:
-    """A diagonal of an integer matrix whose least magnitude is as great as can be, whatever its sum.
+def bottleneck_diagonal(matrix: Matrix) -> BottleneckDiagonal:
+    """Find a diagonal of an integer matrix whose least magnitude is greatest.
+
+    A diagonal is a perfect matching: one entry in each row and each column.
 
     Parameters
     ----------
     matrix : sparse matrix or array, or array_like
         A square matrix of integers of 64 bits, which may be stored as floating-point numbers. The package reads CSC and CSR in
-        place; SciPy converts any other format. A stored zero is an entry. Values given for one place are added up.
+        place, and converts any other format. A stored zero is an entry. Values given for one place are added up.
 
     Returns
     -------
     BottleneckDiagonal
+        Row and column numbers have the type of the indices of `matrix`, int32 or int64.
 
     Raises
     ------
-    TypeError
-        If the values are no integers of 64 bits.
     StructurallySingular
         If the structural rank is less than the size.
     ValueError
-        If `matrix` is not square, its arrays are no compressed columns or rows, or a sum of values needs more than 64 bits.
+        If `matrix` is not square, its arrays are not compressed columns or rows, or a sum of values needs more than 64 bits.
+    TypeError
+        If the values are not integers of 64 bits, or the indices are not integers.
     MemoryError
         If there is not enough memory.
+
+    See Also
+    --------
+    heaviest_diagonal : For a great sum in place of a great least magnitude.
+
+    Notes
+    -----
+    The call bisects the distinct magnitudes, with one maximum matching for each binary digit of their number.
+
+    References
+    ----------
+    .. [1] I. S. Duff and J. Koster, "The design and use of algorithms for permuting large entries to the diagonal of sparse
+       matrices", SIAM Journal on Matrix Analysis and Applications, 20(4), 1999, 889-901.
 
     Examples
     --------

@@ -9,6 +9,7 @@ import numpy
 import numpy.typing
 
 from ._library import MOST
+from ._types import Lines, Matrix
 
 Indices = numpy.typing.NDArray[numpy.integer[Any]]
 
@@ -28,20 +29,20 @@ class Entries:
     starts: Indices
     ids: Indices
 
-    def room(self, size: int) -> numpy.typing.NDArray[numpy.signedinteger[Any]]:
+    def room(self, size: int) -> Lines:
         """Room for so many numbers of the type that the library writes for this matrix."""
         return numpy.empty(size, self.starts.dtype)
 
 
-def compressed(matrix: Any) -> Entries:
+def compressed(matrix: Matrix) -> Entries:
     """The entries of a matrix. The arrays of CSC and CSR are not copied if both are int32 or both int64."""
     return _as_it_stands(_with_arrays(matrix))
 
 
-def weighted(matrix: Any) -> tuple[Entries, numpy.typing.NDArray[numpy.int64]]:
+def weighted(matrix: Matrix) -> tuple[Entries, numpy.typing.NDArray[numpy.int64]]:
     """The entries of a matrix, and a value for each of them."""
-    matrix = _with_arrays(matrix)
-    entries, values = _as_it_stands(matrix), numpy.asarray(matrix.data)
+    made = _with_arrays(matrix)
+    entries, values = _as_it_stands(made), numpy.asarray(made.data)
     if values.ndim != 1 or values.size < entries.ids.size:
         raise ValueError(f"data has the shape {values.shape}, but there are {entries.ids.size} indices")
     return entries, whole(values[: entries.ids.size])
@@ -102,7 +103,9 @@ def _with_arrays(matrix: Any) -> Any:
     except ImportError:
         raise TypeError("without SciPy a matrix must be in one of the formats csc, csr") from None
     if not sparse.issparse(matrix):
-        return sparse.csc_matrix(matrix)
+        if hasattr(matrix, "is_multigraph"):
+            raise TypeError("a graph of NetworkX is no matrix: blocktri.from_networkx makes one of it")
+        return sparse.csc_matrix(numpy.asarray(matrix))  # of a tuple SciPy would make a COO matrix, and add up its values itself
     if len(matrix.shape) != 2:
         raise ValueError(f"a matrix has two dimensions, not the shape {matrix.shape}")
     return _columns_of_places(matrix.tocoo(copy=False))

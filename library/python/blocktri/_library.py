@@ -25,8 +25,9 @@ MOST = 2**32 - 1
 LEAST = 1
 _BY_ROWS = 8
 
-# the version of the library that this package is written for; a later one of the same number has the same calls
-_MAJOR = 1
+# the version of the library that this package is written for, and its text; a later one of the same major number has the same calls
+_NEEDED = (1, 0)
+_NEEDED_TEXT = "needs version 1.0, or a later one of version 1"
 
 # what each call writes besides the place of a fault, in the order of its arguments
 _CALLS = {
@@ -95,9 +96,9 @@ def _load() -> ctypes.CDLL:
             "the environment variable BLOCKTRI_LIBRARY may name the file."
         ) from error
     version = _function(library, "version", [])()
-    if version // 1_000_000 != _MAJOR:
-        found = f"{version // 1_000_000}.{version // 1000 % 1000}.{version % 1000}"
-        raise ImportError(f"the shared library {path} has the version {found}, but this package needs version {_MAJOR}")
+    major, minor, patch = version // 1_000_000, version // 1000 % 1000, version % 1000
+    if major != _NEEDED[0] or minor < _NEEDED[1]:
+        raise ImportError(f"the shared library {path} has the version {major}.{minor}.{patch}, but this package {_NEEDED_TEXT}")
     return library
 
 
@@ -105,7 +106,7 @@ def _function(library: ctypes.CDLL, name: str, arguments: list[Any], result: Any
     try:
         function = library["blocktri_" + name]
     except AttributeError as error:
-        raise ImportError(f"the shared library is older than this package, which needs version {_MAJOR}: {error}") from error
+        raise ImportError(f"the shared library is older than this package, which {_NEEDED_TEXT}: {error}") from error
     function.argtypes, function.restype = arguments, result
     return function
 
@@ -178,8 +179,12 @@ def _error(status: int, entries: Entries, fault: int) -> Exception:
         return ValueError(f"indices[{fault}] is {entries.indices[fault]}, but the matrix has {lines}")
     if status == _SUM_LIMIT:
         place = int(entries.ids[fault]), int(numpy.searchsorted(entries.starts, fault, "right")) - 1
-        row, column = place[::-1] if entries.is_by_rows else place
-        return ValueError(f"the values in row {row}, column {column} add up to more than {2**63 - 1} in magnitude")
+        return past_the_limit(*(place[::-1] if entries.is_by_rows else place))
     if status == _PRICE_LIMIT:
         return ValueError("the values are too large: a price needs more than 64 bits")
     return RuntimeError(f"libblocktri answered with the status {status}: {_TEXT(status).decode()}")
+
+
+def past_the_limit(row: int, column: int) -> ValueError:
+    """The error for values of one place whose sum is too large."""
+    return ValueError(f"the values in row {row}, column {column} add up to more than {2**63 - 1} in magnitude")

@@ -12,7 +12,8 @@ from ._entries import compressed
 if TYPE_CHECKING:
     from matplotlib.axes import Axes
 
-    from ._decomposition import Decomposition, Lines
+    from ._decomposition import Decomposition
+    from ._types import Lines
 
 _COLOURS = {"horizontal": "tab:orange", "square": "tab:green", "vertical": "tab:red"}
 
@@ -28,7 +29,7 @@ def spy(form: Decomposition, ax: Axes | None) -> Axes:
     rows, columns = form.shape
     ax.set(xlim=(-0.5, max(columns, 1) - 0.5), ylim=(max(rows, 1) - 0.5, -0.5), aspect="equal")
     ax.xaxis.tick_top()
-    entry_rows, entry_columns = _entries(form)
+    entry_rows, entry_columns = places_of_entries(form)
     size = _cell(ax, form.shape)
     ax.plot(entry_columns, entry_rows, "s", color="black", markersize=size, markeredgewidth=0, label="entries")
     ax.add_collection(PolyCollection(_outlines(form), facecolors="none", edgecolors="tab:blue", label="blocks"))
@@ -43,7 +44,7 @@ def spy(form: Decomposition, ax: Axes | None) -> Axes:
     return ax
 
 
-def _entries(form: Decomposition) -> tuple[numpy.typing.NDArray[Any], numpy.typing.NDArray[Any]]:
+def places_of_entries(form: Decomposition) -> tuple[numpy.typing.NDArray[Any], numpy.typing.NDArray[Any]]:
     """Where the entries of the matrix stand in the block form: their rows and their columns."""
     entries = compressed(form._matrix)
     lines = numpy.repeat(numpy.arange(entries.starts.size - 1), numpy.diff(entries.starts))

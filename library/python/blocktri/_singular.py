@@ -4,16 +4,23 @@ from __future__ import annotations
 
 import contextlib
 from collections.abc import Iterator
-from typing import Any
-
-from ._decomposition import Lines
 from ._entries import Entries
 from ._library import Singular, Sizes, call
+from ._types import Lines
 from ._words import listed
 
 
 class StructurallySingular(ValueError):
-    """A square matrix has fewer pairs of rows and columns than it has rows, so that no values make it regular.
+    """A square matrix whose structural rank is less than its size, so that no values make it regular.
+
+    `block_order`, `heaviest_diagonal` and `bottleneck_diagonal` raise it.
+
+    Parameters
+    ----------
+    size, rank : int
+        The number of rows, and the structural rank.
+    rows, columns : ndarray of integers
+        The horizontal part of the decomposition: the columns to blame and the rows that they have entries in.
 
     Attributes
     ----------

@@ -6,7 +6,8 @@ from collections.abc import Iterator, Sequence
 from typing import TYPE_CHECKING
 
 if TYPE_CHECKING:
-    from ._decomposition import Decomposition, Lines, Part
+    from ._decomposition import Decomposition, Part
+    from ._types import Lines
 
 
 def counted(count: int, noun: str) -> str:

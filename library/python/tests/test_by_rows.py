@@ -1,12 +1,19 @@
 """A matrix in CSR has the answers that it has in CSC."""
 
+import os
+import re
+
 import numpy
 import pytest
+import scipy.io
 from scipy import sparse
 
 import blocktri
 import blocktri.csgraph
+from blocktri import _decomposition, _library
 from matrices import drawn, with_wide_indices
+
+TOP = os.path.join(os.path.dirname(os.path.abspath(__file__)), "..", "..", "..")
 
 
 def both(seed, times, **how):
@@ -54,6 +61,20 @@ def test_decompositions():
             assert [lists(*part) for part in getattr(one, name)] == [lists(*part) for part in getattr(other, name)]
 
 
+def test_orders_are_those_of_the_program():
+    """docs/EXAMPLES.md has the reports of ``btf analyse --order``, in which rows and columns count from 1."""
+    with open(os.path.join(TOP, "docs", "EXAMPLES.md")) as page:
+        reports = re.findall(r"btf analyse --order < (\S+)\n(.*?)^    end$", page.read(), re.DOTALL | re.MULTILINE)
+    assert reports
+    for file, report in reports:
+        lines = dict(re.findall(r"(?m)^    (row_order|column_order|rank) (.*)$", report))
+        for form in ("csc", "csr", "coo"):
+            found = blocktri.dmperm(scipy.io.mmread(os.path.join(TOP, file)).asformat(form))
+            assert str(found.rank) == lines["rank"]
+            for name in ("row_order", "column_order"):
+                assert (getattr(found, name) + 1).tolist() == list(map(int, lines[name].split()))
+
+
 def test_orders_of_the_identity_are_the_natural_ones():
     for form in ("csc", "csr"):
         found = blocktri.dmperm(sparse.eye(4, format=form))
@@ -97,3 +118,18 @@ def test_places_of_a_sum_past_the_limit():
         for call in (blocktri.heaviest_diagonal, blocktri.bottleneck_diagonal):
             with pytest.raises(ValueError, match=f"the values in {words} add up to more"):
                 call(form(arrays, shape=(3, 3)))
+
+
+def test_one_call_gives_the_matching_and_the_decomposition(monkeypatch):
+    """Nothing is matched twice, and rows are not converted to columns."""
+    called = []
+
+    def counted(name, entries, *rest, **named):
+        called.append((name, entries.is_by_rows))
+        return library_call(name, entries, *rest, **named)
+
+    library_call = _library.call
+    monkeypatch.setattr(_decomposition, "call", counted)
+    for form in ("csc", "csr"):
+        blocktri.dmperm(sparse.random(20, 30, 0.1, form, random_state=0))
+    assert called == [("dmperm", False), ("dmperm", True)]

@@ -1,4 +1,4 @@
-"""How the package is installed, finds its library, and does without SciPy."""
+"""How the package finds its library, calls it, and does without SciPy."""
 
 import ctypes
 import doctest
@@ -8,19 +8,18 @@ import re
 import shutil
 import subprocess
 import sys
-import tarfile
 import textwrap
-import zipfile
 
 import numpy
 import pytest
+import scipy.io
+
+import blocktri
+from blocktri import _library
+from blocktri._entries import compressed
 
 HERE = os.path.dirname(os.path.abspath(__file__))
 PACKAGE = os.path.dirname(HERE)
-sys.path.insert(0, PACKAGE)
-import backend  # noqa: E402
-from blocktri import _library  # noqa: E402
-from blocktri._entries import compressed  # noqa: E402
 
 LOADED = _library._load()
 FILE = LOADED._name
@@ -33,54 +32,13 @@ def run(program, path=PACKAGE, **environment):
     return done.stdout, done.stderr.strip().rpartition("\n")[2]
 
 
-@pytest.mark.skipif(not os.path.exists(FILE), reason="the library lies where only the loader finds it")
-def test_a_wheel_has_all_that_is_wanted(tmp_path):
-    before = {name: os.path.join(backend.PACKAGE, name) for name in os.listdir(backend.PACKAGE)}
-    with zipfile.ZipFile(tmp_path / backend.build_wheel(tmp_path)) as wheel:
-        names = wheel.namelist()
-        assert all(entry.external_attr >> 16 == 0o644 for entry in wheel.infolist())
-        wheel.extractall(tmp_path / "there")
-    assert {f"blocktri/{name}" for name in before if name.endswith(".py")} | {"blocktri/py.typed"} <= set(names)
-    assert any(name.endswith(".dist-info/LICENSE") for name in names)
-    assert run("import blocktri; print(blocktri.structural_rank([[1, 1], [0, 0]]))", str(tmp_path / "there"),
-               BLOCKTRI_LIBRARY="" if "blocktri/libblocktri.so" in names else FILE) == ("1\n", "")
-
-
-def test_pip_installs_a_checkout_without_a_network(tmp_path):
-    command = [sys.executable, "-m", "pip", "install", "--quiet", "--no-index", "--no-deps", "--target", str(tmp_path), PACKAGE]
-    if subprocess.run([sys.executable, "-m", "pip", "--version"], capture_output=True).returncode != 0:
-        pytest.skip("there is no pip")
-    done = subprocess.run(command, capture_output=True, text=True)
-    assert done.returncode == 0, done.stderr
-    program = "import blocktri; print(blocktri.__file__, blocktri.structural_rank([[1]]))"
-    printed = run(program, str(tmp_path), BLOCKTRI_LIBRARY=FILE)
-    assert printed == (f"{tmp_path}/blocktri/__init__.py 1\n", "")
-
-
-def contents(wheel):
-    """What each file has, but for the library and for what tells whether it is there."""
-    with zipfile.ZipFile(wheel) as archive:
-        names = [name for name in archive.namelist() if not name.endswith((backend.LIBRARY, "/WHEEL", "/RECORD"))]
-        return {name: archive.read(name) for name in names}
-
-
-def test_a_source_archive_makes_the_same_wheel(tmp_path):
-    with tarfile.open(tmp_path / backend.build_sdist(tmp_path)) as archive:
-        archive.extractall(tmp_path)
-        folder = tmp_path / archive.getnames()[0].partition("/")[0]
-    assert (folder / "PKG-INFO").read_bytes() == backend._metadata()
-    (tmp_path / "again").mkdir()
-    wheel, error = run(f"import backend; print(backend.build_wheel({str(tmp_path / 'again')!r}))", str(folder))
-    assert error == ""
-    assert contents(tmp_path / "again" / wheel.strip()) == contents(tmp_path / backend.build_wheel(tmp_path))
-
-
 def test_the_library_has_the_version_of_the_package():
     with open(os.path.join(PACKAGE, "..", "Makefile")) as file:
         numbers = dict(re.findall("^(VERSION|ABI) = (.*)$", file.read(), re.MULTILINE))
-    assert numbers["VERSION"] == backend._version()
+    assert numbers["VERSION"] == blocktri.__version__
     assert f'"libblocktri.so.{numbers["ABI"]}"' in inspect.getsource(_library._load)
-    assert numbers["VERSION"].partition(".")[0] == str(_library._MAJOR)
+    major, minor = _library._NEEDED
+    assert numbers["VERSION"].startswith(f"{major}.{minor}.") and f"version {major}.{minor}," in _library._NEEDED_TEXT
 
 
 def header():
@@ -124,16 +82,17 @@ def test_a_library_that_is_not_there_or_not_right(tmp_path):
     _, error = run("import blocktri", BLOCKTRI_LIBRARY=str(tmp_path / "none.so"))
     assert error.startswith("ImportError: the shared library of blocktri can't be loaded: ") and "none.so" in error
     _, error = run("import blocktri", BLOCKTRI_LIBRARY="libc.so.6")
-    assert error.startswith("ImportError: the shared library is older than this package, which needs version 1: ")
+    assert error.startswith("ImportError: the shared library is older than this package, which needs version 1.0, or a later one of version 1: ")
     assert "blocktri_version" in error
 
 
 @pytest.mark.skipif(shutil.which("gcc") is None, reason="there is no gcc")
 def test_a_library_of_another_version(tmp_path):
     file = tmp_path / "of_another_version.so"
-    older = f"is older than this package, which needs version 1: {file}: undefined symbol: blocktri_rank"
-    for version, words in ((999_999, f"{file} has the version 0.999.999, but this package needs version 1"),
-                           (2_003_004, f"{file} has the version 2.3.4, but this package needs version 1"), (1_000_000, older)):
+    needs = "needs version 1.0, or a later one of version 1"
+    older = f"is older than this package, which {needs}: {file}: undefined symbol: blocktri_rank"
+    for version, words in ((999_999, f"{file} has the version 0.999.999, but this package {needs}"),
+                           (2_003_004, f"{file} has the version 2.3.4, but this package {needs}"), (1_000_000, older), (1_002_003, older)):
         command = ["gcc", "-shared", "-fPIC", "-o", file, "-x", "c", "-"]
         subprocess.run(command, input=f"int blocktri_version(void) {{ return {version}; }}", text=True, check=True)
         _, error = run("import blocktri", BLOCKTRI_LIBRARY=str(file))
@@ -142,7 +101,8 @@ def test_a_library_of_another_version(tmp_path):
 
 @pytest.mark.skipif(not os.path.exists(FILE), reason="the library lies where only the loader finds it")
 def test_the_systems_loader_finds_the_library(tmp_path):
-    shutil.copytree(backend.PACKAGE, tmp_path / "blocktri", ignore=shutil.ignore_patterns(backend.LIBRARY, "__pycache__"))
+    without = shutil.ignore_patterns("libblocktri.so", "__pycache__")
+    shutil.copytree(os.path.join(PACKAGE, "blocktri"), tmp_path / "blocktri", ignore=without)
     (tmp_path / "folder").mkdir()
     shutil.copy(FILE, tmp_path / "folder" / "libblocktri.so.1")
     printed = run("import blocktri; print(blocktri.structural_rank([[1]]))", str(tmp_path), LD_LIBRARY_PATH=str(tmp_path / "folder"))
@@ -181,6 +141,40 @@ def test_what_the_pages_show(monkeypatch):
     done = subprocess.run(command, env=os.environ | {"PYTHONPATH": PACKAGE}, capture_output=True, text=True)
     with open("docs/EXAMPLES.md") as page:
         assert done.stdout and textwrap.indent(done.stdout, "    ") in page.read()
+
+
+def test_the_worked_case():
+    """All that the page shows, but that another SciPy may count other entries in L and U."""
+    top = os.path.join(PACKAGE, "..", "..")
+    done = subprocess.run([sys.executable, "examples/worked_case.py"], env=os.environ | {"PYTHONPATH": PACKAGE}, cwd=top,
+                          capture_output=True, text=True)
+    assert done.returncode == 0, done.stderr
+    counts = re.compile(r"\d+(?= entries in L and U)")
+    with open(os.path.join(top, "docs", "PYTHON.md")) as page:
+        shown = counts.sub("", page.read())
+    assert counts.sub("", "".join(f"    {line}\n" for line in done.stdout.splitlines())) in shown
+    flow_sheet, by_blocks, circuit, circuit_by_blocks = map(int, counts.findall(done.stdout))
+    assert by_blocks < flow_sheet and 2 * circuit_by_blocks < circuit
+    with open(os.path.join(top, "examples", "flow_sheet.svg")) as picture:
+        matrix = scipy.io.mmread(os.path.join(top, "examples", "flow_sheet.mtx"))
+        assert picture.read() == blocktri.dmperm(matrix).svg()
+
+
+def test_what_the_readme_shows():
+    assert doctest.testfile(os.path.join(PACKAGE, "README.rst"), module_relative=False).failed == 0
+
+
+def test_the_drop_ins_come_with_the_package():
+    printed = run("""
+        import blocktri, sys
+        print("scipy" in sys.modules, "csgraph" in dir(blocktri))
+        print(blocktri.csgraph.structural_rank.__module__)
+        try:
+            blocktri.nothing
+        except AttributeError as error:
+            print(error)
+    """, BLOCKTRI_LIBRARY=FILE)
+    assert printed == ("False True\nblocktri.csgraph\nmodule 'blocktri' has no attribute 'nothing'\n", "")
 
 
 def test_matplotlib_is_loaded_for_pictures_alone():
