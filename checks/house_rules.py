@@ -18,9 +18,9 @@ import rattle_source as source  # noqa: E402
 
 # The most findings of a rule: lower the number where findings go.
 AT_MOST = {
-    "law called in a body": 90,
+    "law called in a body": 89,
     "statement stands twice": 8,
-    "name with two meanings": 3,
+    "name with two meanings": 1,
 }
 
 FROM_OUTSIDE = {"rt", "alloc", "self", "&self", "&mut self"}
@@ -105,14 +105,23 @@ def two_meanings(_functions):
             yield name, ", ".join(sorted(crates))
 
 
+CALL = re.compile(r"^\s*(?:[\w.]+\.|(?:\w+::)*)(\w+)(?:::<[^;]*>)?\(.*\);$", re.M)
+
+
 def laws_called(functions):
     """Calls of laws, which compute nothing, in bodies that compute something."""
     laws = {function.name for function in functions if function.is_law}
     for function in functions:
-        if function.body and not function.is_law:
-            for name in re.findall(r"^\s*(?:[\w.]+\.|(?:\w+::)*)(\w+)(?:::<[^;]*>)?\(.*\);$", function.body, re.M):
+        if function.body and not function.is_law and not only_cites(function.body, laws):
+            for name in CALL.findall(function.body):
                 if name in laws:
                     yield f"{function.path} {name}", function.place
+
+
+def only_cites(body, laws):
+    """Whether a body is nothing but calls of laws: that of a law which an impl gives, whose clauses stand in the trait."""
+    lines = [line for line in body.strip().strip("{}").splitlines() if line.strip() and not line.strip().startswith("//")]
+    return all((call := CALL.match(line)) and call[1] in laws for line in lines)
 
 
 RULES = {

@@ -60,7 +60,9 @@
  * STACK. A call needs at most 64 KiB of stack, whatever the matrix.
  *
  * WORK. One unit is a look at each row, column and id. Reading the matrix takes a fixed number of units, and the time to sort
- * the columns whose ids do not rise. Each call tells below what it takes beyond that.
+ * the columns whose ids do not rise. A square matrix by columns is read in place, and nothing of it is sorted, if its diagonal is
+ * full, or if a first look, in which each column takes the first of its rows that no column before it took, matches every column.
+ * Each call tells below what it takes beyond that.
  */
 #ifndef BLOCKTRI_H
 #define BLOCKTRI_H

@@ -4,13 +4,14 @@ ghost use Rattle.bip_graph.specs.Decompositions.{HasParts};
 ghost use Rattle.bip_graph.specs.Matching.{IsMatchingOf, IsMaximumOf};
 
 use bip_graph::{Blocks, Matching, Parts};
+use column_lists::PatternColumns;
 use dm_coarse::{coarse, coarse_if_maximum};
 use dm_fine::fine;
 use hall_witness::plain;
 use karp_sipser::start;
 use sp_ids::{Col, Row};
 use sp_pattern::Pattern;
-use square_components::{Components, strong_components};
+use square_components::{StrongComponents, strong_components};
 use std::alloc::Global;
 use std::test::Fail;
 use std::thread::Threads;
@@ -72,13 +73,13 @@ pub(crate) fn are_blocks(blocks: &Blocks, wanted: &[Lists]) -> bool {
 }
 
 /// The number of a column's component, where the column counts from 1.
-fn number_of(components: &Components, col: u32) -> Option<u32> {
+fn number_of(components: &StrongComponents, col: u32) -> Option<u32> {
     let at = col.checked_sub(1)?;
-    components.numbers.get(at as usize).copied()
+    components.of_cols.get(at as usize).copied()
 }
 
 /// Whether these columns have this number.
-fn have_number(components: &Components, cols: &[u32], number: Option<u32>) -> bool {
+fn have_number(components: &StrongComponents, cols: &[u32], number: Option<u32>) -> bool {
     for col in cols {
         if number_of(components, *col) != number {
             return false;
@@ -88,7 +89,7 @@ fn have_number(components: &Components, cols: &[u32], number: Option<u32>) -> bo
 }
 
 /// Whether there are as many components as blocks, and the columns of a block have one number.
-fn are_components(components: &Components, wanted: &[Lists]) -> bool {
+fn are_components(components: &StrongComponents, wanted: &[Lists]) -> bool {
     for lists in wanted {
         if let Some(first) = lists.cols.get(0) {
             let number = number_of(components, *first);
@@ -105,7 +106,7 @@ fn have_none(
     alloc: Global,
     worked: &Worked<'_>,
     word: &str,
-    components: &Components,
+    components: &StrongComponents,
 ) -> Result<bool, Fail> {
     let part = worked.lists(alloc, word)?;
     Ok(have_number(components, part.cols.as_slice(), Some(u32::MAX)))
@@ -125,12 +126,16 @@ fn are_numbers(found: &[u32], numbers: &[u32]) -> bool {
 }
 
 /// Whether the numbers are those of the table, where there is one way to number the components.
-fn has_numbers(alloc: Global, worked: &Worked<'_>, components: &Components) -> Result<bool, Fail> {
+fn has_numbers(
+    alloc: Global,
+    worked: &Worked<'_>,
+    components: &StrongComponents,
+) -> Result<bool, Fail> {
     if worked.find("components").is_none() {
         return Ok(true);
     }
     let numbers = worked.numbers(alloc, "components")?;
-    Ok(are_numbers(components.numbers.as_slice(), numbers.as_slice()))
+    Ok(are_numbers(components.of_cols.as_slice(), numbers.as_slice()))
 }
 
 /// Whether the components are right.
@@ -145,7 +150,7 @@ fn has_components(
     requires parts { HasParts pattern.now parts.now }
 {
     let wanted = blocks_of(alloc, worked)?;
-    let components = strong_components(alloc, pattern, matching, parts)?;
+    let components = strong_components(alloc, PatternColumns { pattern }, matching, parts)?;
     Ok(
         are_components(&components, wanted.as_slice())
             && have_none(alloc, worked, "horizontal", &components)?

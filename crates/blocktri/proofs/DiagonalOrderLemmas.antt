@@ -1,74 +1,44 @@
 -- Orders with entries all along the diagonal.
-use Rattle.std.proofs.Common.{◌≡◌, ◌≢◌, ◌⊎◌, ◌∙◌, ℕ, zero, suc, ◌+◌, ◌-◌, ◌<◌, ◌≤◌, List, [], ◌∷◌, ◌++◌, Some, length, map, set, take, get_or, refl, sym, ap, arith, subst, inl, inr, append-nil, length-append, get_or-set_same, get_or-set_other}
-use Rattle.std.proofs.lemmas.List.{get_or_append_left, get_or-append-add, length-map, map-id, nil_from_length}
+use Rattle.std.proofs.Common.{◌≡◌, ◌≢◌, ◌⊎◌, ◌∙◌, ℕ, zero, suc, ◌+◌, ◌-◌, ◌<◌, ◌≤◌, List, [], ◌∷◌, ◌++◌, Bool, true, false, None, Some, length, map, set, take, get_or, refl, sym, ap, arith, subst, inl, inr, append-nil, length-append, get_or-set_same, get_or-set_other}
+use Rattle.std.proofs.lemmas.List.{get_or_append_left, get_or-append-add, map-id, nil_from_length}
 use Rattle.bip_defs.specs.Blocks.{Block, all_cols, all_rows, block_at, no_block}
 use Rattle.bip_defs.specs.Bottleneck.{IsFull}
 use Rattle.bip_defs.specs.Decomposition.{Decomposition, IsDecompositionOf}
 use Rattle.bip_defs.specs.Lists.{Among, AreDistinct}
-use Rattle.bip_defs.specs.Matching.{IsMatching, IsMaximum, rows_of}
-use Rattle.bip_defs.specs.Matrix.{Matrix, Place, cols, upto}
+use Rattle.bip_defs.specs.Matching.{IsMatching}
+use Rattle.bip_defs.specs.Matrix.{Matrix, Place, cols}
 use Rattle.bip_defs.specs.Once.{ListsOnce}
-use Rattle.bip_defs.specs.Parts.{IsHorizontalCol, IsSquareCol, IsVerticalCol}
-use Rattle.bip_defs.proofs.BottleneckLemmas.{full_length}
-use Rattle.bip_defs.proofs.Full.{all_below, full_maximum, has_all_cols, has_all_rows, matching_few}
-use Rattle.bip_defs.proofs.FullMatchings.{long_full}
+use Rattle.bip_defs.specs.Parts.{IsSquareCol}
+use Rattle.bip_defs.proofs.Full.{all_below}
 use Rattle.bip_defs.proofs.Paired.{block_square, maximum_pairs}
 use Rattle.bip_defs.proofs.Queues.{distinct_at}
-use Rattle.bip_defs.proofs.Sets.{among_at, few_distinct, number_same, one_col, one_row, place_among, rising_distinct, upto_length, upto_lists, upto_rising}
+use Rattle.bip_defs.proofs.Sets.{among_at, number_same, one_col, one_row, place_among}
 use Rattle.bip_defs.proofs.Together.{square_cols_once}
 use Rattle.bip_defs.proofs.Triangular.{cols_once}
 use Rattle.bip_graph.specs.Answers.{orders_of}
-use Rattle.bip_graph.specs.Decompositions.{decomposition_of}
+use Rattle.blocktri.specs.BlockForms.{decomposition_of}
 use Rattle.bip_graph.specs.Matching.{Pairing}
 use Rattle.bip_graph.specs.Orders.{rows_before}
-use Rattle.bip_graph.specs.declared.answers.Decomposition as answers
 use Rattle.blocktri.specs.Answers.{AreBlockStarts, Fills}
-use Rattle.blocktri.specs.BlockOrders.{AreMatesOf, IsPerfectOf, IsRowOrder, OrderLists, TellsBlockOrder}
+use Rattle.blocktri.specs.BlockOrders.{AreMatesOf, IsPerfectOf, IsRowOrder, LeavesOrders, OrderLists, TellsBlockOrder}
 use Rattle.blocktri.specs.Compressed.{IsRoom}
+use Rattle.blocktri.specs.Forms.{TellsIf}
+use Rattle.blocktri.specs.declared.forms.BlockForm.{BlockForm}
+use Rattle.blocktri.proofs.PerfectLemmas.{full_is_maximum, perfect_full, square_col}
 use Rattle.blocktri.proofs.WriteLemmas.{before_more, before_within, once_long}
 
--- Perfect matchings.
+-- Where there is a perfect matching.
 
--- a perfect matching has at least as many pairs as there are rows, and as there are columns
-pub full_rows : (a : Matrix) (m : List Place) → IsFull a m → a.rows ≤ length m
-full_rows a m full =
-    let few = few_distinct (upto a.rows) (rows_of m) (rising_distinct (upto a.rows) (upto_rising 0 a.rows)) (λ r h. full.all_rows r ((upto_lists a.rows).sound r h)) in
-    let long = upto_length 0 a.rows in
-    let same = length-map m (λ (p : Place). p.0) in
-    omega (arith, few, long, same)
-
--- so it is maximum
-pub full_is_maximum : (a : Matrix) (m : List Place) → IsFull a m → IsMaximum a m
-full_is_maximum a m full =
-    let columns = full_length a m full in
-    let few = matching_few a m full.matching in
-    full_maximum a m full.matching (omega (arith, columns, few))
-
--- of a square matrix and its decomposition
-pub perfect_full : (a : Matrix) (d : answers.Decomposition) (m : Pairing) → IsPerfectOf a d m → IsFull a m.pairs
-perfect_full a d m is =
-    let square = is.square in
-    let full = is.full in
-    long_full a m.pairs square is.maximum.maximum.matching (omega (arith, square, full))
-
--- Where there is one, all columns are square.
-
--- so the blocks have each column once
+-- all columns are square, so the blocks have each column once
 pub all_cols_once : (a : Matrix) (d : Decomposition) (m : List Place) → IsDecompositionOf a d → IsFull a m → ListsOnce (λ c. c < cols a) (all_cols d.blocks)
 all_cols_once a d m is full = record {
   distinct = once.distinct;
   sound = λ c h. (once.sound c h).0;
-  complete = λ c lt. once.complete c (lt, not_horizontal c, not_vertical c);
+  complete = λ c lt. once.complete c (square_col a m full c lt);
 }
   where
     once : ListsOnce (IsSquareCol a) (all_cols d.blocks)
     once = square_cols_once a d.blocks is.blocks
-
-    not_horizontal : (c : ℕ) → ¬ IsHorizontalCol a c
-    not_horizontal c h = let (lt, o, most, missed) = h in let longest = most.longest m full.matching in let columns = full_length a m full in missed (has_all_cols a o most.matching (omega (arith, columns, longest)) c lt)
-
-    not_vertical : (c : ℕ) → ¬ IsVerticalCol a c
-    not_vertical c v = let (r, row, e) = v in let (lt, o, most, missed) = row in let longest = most.longest m full.matching in let rows = full_rows a m full in missed (has_all_rows a o most.matching (omega (arith, rows, longest)) r lt)
 
 -- and the order of the columns has those of the blocks alone
 pub columns_of_blocks : (a : Matrix) (d : Decomposition) (m : List Place) → IsDecompositionOf a d → IsFull a m → (orders_of d).1 ≡ all_cols d.blocks
@@ -188,17 +158,22 @@ mates_order a d m rows is full square long mates = record {
 
 -- What is told.
 
--- the orders of a square matrix, from what is written of its decomposition and its matching
-pub order_told : (a : Matrix) (d : answers.Decomposition) (m : Pairing) (old new : OrderLists) → IsPerfectOf a d m → IsRoom a.rows old.row_order → Fills old.row_order new.row_order (AreMatesOf m.pairs (all_cols d.blocks) new.row_order)
+-- the orders of a square matrix, from what is written of its form and its matching
+pub order_told : (a : Matrix) (d : BlockForm) (m : Pairing) (old new : OrderLists) → IsPerfectOf a d m → IsRoom a.rows old.row_order → Fills old.row_order new.row_order (AreMatesOf m.pairs (all_cols d.blocks) new.row_order)
     → Fills old.column_order new.column_order (new.column_order ≡ (orders_of (decomposition_of d)).1) → Fills old.block_starts new.block_starts (AreBlockStarts d.blocks old.block_starts new.block_starts) → TellsBlockOrder a m.pairs (Some (length d.blocks)) old new
 order_told a d m old new is room rows columns starts = record {
   decomposition = decomposition_of d;
-  is_decomposition = is.decomposes.decomposition;
+  is_decomposition = is.form.decomposition;
   count_is = refl;
   rows = record {
     long = rows.long;
-    holds = λ some. let long = rows.long in mates_order a (decomposition_of d) m.pairs new.row_order is.decomposes.decomposition (perfect_full a d m is) is.square (omega (arith, room, some, long)) (rows.holds some);
+    holds = λ some. let long = rows.long in mates_order a (decomposition_of d) m.pairs new.row_order is.form.decomposition (perfect_full a m is.perfect) is.perfect.square (omega (arith, room, some, long)) (rows.holds some);
   };
   columns = columns;
   starts = starts;
 }
+
+-- where the blocks are not wanted, none of them are told
+pub order_left : (wanted : Bool) (P : Type 0) (old new : OrderLists) → (wanted ≡ true → ⊥) → new.row_order ≡ old.row_order → new.column_order ≡ old.column_order → new.block_starts ≡ old.block_starts → TellsIf wanted P (LeavesOrders None old new)
+order_left true P old new not_wanted rows columns starts = absurd (not_wanted refl)
+order_left false P old new not_wanted rows columns starts = record { count_is = refl; rows = rows; columns = columns; starts = starts }

@@ -8,7 +8,7 @@ use Rattle.bip_defs.specs.Matrix.{Matrix, Place, cols, upto}
 use Rattle.bip_defs.specs.Once.{ListsOnce}
 use Rattle.bip_defs.proofs.Paired.{block_square}
 use Rattle.bip_defs.proofs.Sets.{upto_length}
-use Rattle.bip_graph.specs.Decompositions.{decomposition_of}
+use Rattle.blocktri.specs.BlockForms.{decomposition_of}
 use Rattle.bip_graph.specs.Orders.{rows_before}
 use Rattle.blocktri.specs.Dmperm.{DmpermLists, HasPermutations, HavePermutedRoom, IsRoomForCuts, PermutedLists, TellsDmperm, TellsPermuted, cut_if, cuts_of}
 use Rattle.bip_graph.specs.Matching.{IsMatchingOf, Pairing}

@@ -1,7 +1,8 @@
 -- What is told of a form, from what is found and written.
 use Rattle.std.proofs.Common.{◌≡◌, ℕ, ◌+◌, ◌<◌, ◌^◌, Bool, List, Option, None, Some, subst, sym}
 use Rattle.bip_defs.specs.Matrix.{Matrix, cols}
-use Rattle.bip_graph.specs.Decompositions.{components_of, decomposition_of}
+use Rattle.bip_graph.specs.Decompositions.{components_of}
+use Rattle.blocktri.specs.BlockForms.{decomposition_of}
 use Rattle.bip_graph.specs.declared.answers.Components.{Components}
 use Rattle.blocktri.specs.Compressed.{AreCompressed, CompressedLists, IsRoom, column_count, matrix_given, row_count}
 use Rattle.blocktri.specs.Forms.{FormLists, LeavesBlocks, TellsBlocks, TellsForm, TellsIf}

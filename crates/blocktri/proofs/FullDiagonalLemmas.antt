@@ -1,12 +1,12 @@
 -- The matching of a full diagonal.
-use Rattle.std.proofs.Common.{◌≡◌, ◌≢◌, ◌⊎◌, ◌↔◌, ◌∙◌, ℕ, ◌+◌, ◌-◌, ◌<◌, ◌≤◌, List, length, drop, get_or, refl, sym, ap, arith, subst, inl, inr, ⊎_elim}
+use Rattle.std.proofs.Common.{◌≡◌, ◌≢◌, ◌⊎◌, ◌↔◌, ◌∙◌, ℕ, ◌+◌, ◌-◌, ◌<◌, ◌≤◌, List, [], ◌∷◌, length, map, drop, get_or, refl, sym, ap, arith, subst, inl, inr, ⊎_elim}
 use Rattle.std.proofs.lemmas.Bool.{cases_lt}
 use Rattle.std.proofs.lemmas.List.{get_or-drop, get_or-take, length-drop, length-take}
 use Rattle.std.specs.List.{slice_range}
-use Rattle.bip_defs.specs.Lists.{Among}
-use Rattle.bip_defs.specs.Matching.{cols_of, rows_of}
-use Rattle.bip_defs.specs.Matrix.{IsEntry, Matrix, Place, cols}
-use Rattle.bip_defs.proofs.Sets.{col_among, col_pair, entry_col, number_same, place_among, row_among, row_pair}
+use Rattle.bip_defs.specs.Lists.{Among, AreDistinct}
+use Rattle.bip_defs.specs.Matching.{IsMatching, IsMaximum, IsRank, cols_of, rows_of}
+use Rattle.bip_defs.specs.Matrix.{IsEntry, Matrix, Place, cols, upto}
+use Rattle.bip_defs.proofs.Sets.{among_map_back, rising_distinct, upto_lists, upto_mapped, upto_rising, col_among, col_pair, entry_col, number_same, place_among, row_among, row_pair}
 use Rattle.bip_graph.specs.Matching.{IsMatchingOf, IsMaximumOf, IsPairing, Pairing}
 use Rattle.blocktri.specs.Diagonal.{IsDiagonalFull}
 use Rattle.blocktri.proofs.LookLemmas.{cols_matched_maximum, look_matching, rows_matched_maximum}
@@ -58,3 +58,40 @@ diagonal_maximum a m x y high broad rows columns pairs pairing full = record {
   where
     is : IsMatchingOf a m
     is = look_matching a m (rows ∙ high) (columns ∙ broad) (λ r c h. let (same, row, col) = (pairs r c).0 h in subst (λ k. IsEntry a r k) same (full r (omega (arith, row, high)) (omega (arith, same, col, broad)))) pairing
+
+-- Its rank.
+
+mapped_back : (f : ℕ → Place) (g : Place → ℕ) → ((x : ℕ) → g (f x) ≡ x) → (xs : List ℕ) → map g (map f xs) ≡ xs
+mapped_back f g back [] = refl
+mapped_back f g back (x ∷ xs) = λ i. back x i ∷ mapped_back f g back xs i
+
+-- the pairs of the first n places of the diagonal
+abbrev diagonal_pairs : ℕ → List Place
+diagonal_pairs n = map (λ i. (i, i)) (upto n)
+
+diagonal_rows : (n : ℕ) → rows_of (diagonal_pairs n) ≡ upto n
+diagonal_rows n = mapped_back (λ i. (i, i)) (λ p. p.0) (λ x. refl) (upto n)
+
+diagonal_cols : (n : ℕ) → cols_of (diagonal_pairs n) ≡ upto n
+diagonal_cols n = mapped_back (λ i. (i, i)) (λ p. p.1) (λ x. refl) (upto n)
+
+diagonal_matching : (a : Matrix) (n : ℕ) → n ≤ a.rows → n ≤ cols a → IsDiagonalFull a → IsMatching a (diagonal_pairs n)
+diagonal_matching a n high broad full = record {
+  entries = λ r c h.
+      let (i, on, e) = among_map_back (λ (k : ℕ). (k, k)) (r, c) (upto n) h in
+      let lt = (upto_lists n).sound i on in
+      subst (λ (p : Place). IsEntry a p.0 p.1) e (full i (omega (arith, lt, high)) (omega (arith, lt, broad)));
+  rows_differ = subst AreDistinct (sym (diagonal_rows n)) (rising_distinct (upto n) (upto_rising 0 n));
+  cols_differ = subst AreDistinct (sym (diagonal_cols n)) (rising_distinct (upto n) (upto_rising 0 n));
+}
+
+-- a full diagonal that takes all rows, or all columns, has as many places as the rank
+pub full_diagonal_rank : (a : Matrix) (n : ℕ) → n ≤ a.rows → n ≤ cols a → (a.rows ≤ n) ⊎ (cols a ≤ n) → IsDiagonalFull a → IsRank a n
+full_diagonal_rank a n high broad short full = (diagonal_pairs n, maximum short, upto_mapped (λ i. (i, i)) n)
+  where
+    is : IsMatching a (diagonal_pairs n)
+    is = diagonal_matching a n high broad full
+
+    maximum : (a.rows ≤ n) ⊎ (cols a ≤ n) → IsMaximum a (diagonal_pairs n)
+    maximum (inl rows) = rows_matched_maximum a (diagonal_pairs n) is (λ r c e. let lt = e.0 in subst (Among r) (sym (diagonal_rows n)) ((upto_lists n).complete r (omega (arith, lt, rows))))
+    maximum (inr columns) = cols_matched_maximum a (diagonal_pairs n) is (λ r c e. let lt = entry_col a r c e in subst (Among c) (sym (diagonal_cols n)) ((upto_lists n).complete c (omega (arith, lt, columns))))

@@ -9,6 +9,7 @@ pub mod LawLemmas
 pub mod LookLemmas
 pub mod MatchedLemmas
 pub mod OrderLaws
+pub mod PerfectLemmas
 pub mod PermutedLemmas
 pub mod PriceLemmas
 pub mod RankLaws

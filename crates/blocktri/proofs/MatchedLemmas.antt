@@ -1,14 +1,17 @@
 -- Matchings that are found and written.
-use Rattle.std.proofs.Common.{◌≡◌, ◌≢◌, ◌↔◌, ◌∙◌, ℕ, ◌^◌, ◌<◌, Bool, true, false, List, length, get_or, arith, refl, subst, sym}
+use Rattle.std.proofs.Common.{◌≡◌, ◌≢◌, ◌↔◌, ◌∙◌, ℕ, ◌^◌, ◌<◌, Bool, true, false, IfNone, IfSome, List, Option, None, Some, length, get_or, arith, refl, subst, sym}
 use Rattle.bip_defs.specs.Lists.{Among}
 use Rattle.bip_defs.specs.Matching.{IsMaximum, IsRank, rows_of, transposed_places}
 use Rattle.bip_defs.specs.Matrix.{Matrix, Place, transpose}
 use Rattle.bip_defs.proofs.Sets.{one_col, row_among}
 use Rattle.bip_defs.proofs.Transposed.{transpose_is, turned_among, turned_back, turned_length, turned_maximum, turned_twice}
-use Rattle.bip_graph.specs.Matching.{IsMatchingOf, IsPairing, Pairing, none}
+use Rattle.bip_graph.specs.Matching.{IsMatchingOf, IsMaximumOf, IsPairing, Pairing, none}
+use Rattle.bip_graph.specs.OuterMarks.{AreOuterMarks}
+use Rattle.bip_graph.specs.declared.outer_marks.OuterMarks.{OuterMarks}
 use Rattle.blocktri.specs.Answers.{AreColumnsOf, AreRowsOf, Fills, HaveMatesRoom, TellsMatching}
 use Rattle.blocktri.specs.Compressed.{AreCompressed, CompressedLists, IsRoom, listed, matrix_given, transpose_if}
 use Rattle.blocktri.specs.Diagonal.{IsDiagonalFull}
+use Rattle.blocktri.specs.Matched.{IsSearchOf}
 use Rattle.blocktri.proofs.CompressedLemmas.{given_cols, given_rows}
 use Rattle.blocktri.proofs.WriteLemmas.{AreRowsBelow}
 
@@ -81,3 +84,17 @@ tells_any a m size old_rows rows old_columns columns not_full max is of_columns 
 -- of one of the transpose, with the lists exchanged
 pub tells_turned : (a : Matrix) (m : List Place) (size : ℕ) (old_rows rows old_columns columns : List ℕ) → ¬ IsDiagonalFull (transpose a) → IsMaximum a m → size ≡ length m → Fills old_rows rows (AreColumnsOf m rows) → Fills old_columns columns (AreRowsOf m columns) → TellsMatching (transpose a) false size old_rows rows old_columns columns
 tells_turned a m size old_rows rows old_columns columns not_full max is of_columns of_rows = tells_any (transpose a) (transposed_places m) size old_rows rows old_columns columns not_full (turned_maximum a (transpose a) m (transpose_is a) max) (is ∙ sym (turned_length m)) of_columns (twice_turned m old_columns columns of_rows)
+
+-- what holds where there is none
+pub where_none : {X : Type 0} (P : Type 0) (o : Option X) → ((x : X) → o ≡ Some x → ⊥) → IfNone o P → P
+where_none P None not_some holds = holds
+where_none P (Some x) not_some holds = absurd (not_some x refl)
+
+-- what a search found in a matrix whose diagonal is not full
+pub search_told : (a p : Matrix) (m : Pairing) (marks : Option OuterMarks) → p ≡ a → ¬ IsDiagonalFull a → IsMaximumOf p m → IfSome marks (AreOuterMarks p) → IsSearchOf a (record { pattern = p; matching = m; marks = marks })
+search_told a p m marks is not_full max known = record {
+  pattern_is = is;
+  maximum = subst (λ (b : Matrix). IsMaximumOf b m) is max;
+  diagonal = λ full. absurd (not_full full);
+  marks_are = subst (λ (b : Matrix). IfSome marks (AreOuterMarks b)) is known;
+}

@@ -8,7 +8,7 @@ use Rattle.bip_defs.proofs.BottleneckLemmas.{full_length}
 use Rattle.bip_defs.proofs.Full.{matching_few}
 use Rattle.bip_defs.proofs.FullMatchings.{long_full}
 use Rattle.blocktri.specs.PerfectMatchings.{HasNoPerfectMatching, IsBelowFullRank}
-use Rattle.blocktri.proofs.DiagonalOrderLemmas.{full_rows}
+use Rattle.blocktri.proofs.PerfectLemmas.{full_rows}
 use Rattle.blocktri.proofs.LookLemmas.{few_rows}
 
 pub no_perfect_below : (a : Matrix) (rank : ℕ) → IsRank a rank → HasNoPerfectMatching a ↔ IsBelowFullRank a rank

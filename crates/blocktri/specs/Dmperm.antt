@@ -7,16 +7,16 @@ use Rattle.bip_defs.specs.Matching.{IsMaximum, cols_of, rows_of}
 use Rattle.bip_defs.specs.Matrix.{Matrix, Place, cols, upto}
 use Rattle.bip_defs.specs.Once.{ListsOnce}
 use Rattle.bip_defs.specs.Parts.{IsHorizontalCol, IsHorizontalRow, IsVerticalRow}
-use Rattle.bip_graph.specs.Decompositions.{Decomposes, decomposition_of}
 use Rattle.bip_graph.specs.Matching.{IsMaximumOf, Pairing}
 use Rattle.bip_graph.specs.Orders.{rows_before}
-use Rattle.bip_graph.specs.declared.answers.Decomposition as answers
 use Rattle.blocktri.specs.Answers.{AreRowsOf, Fills, TellsSizes}
+use Rattle.blocktri.specs.BlockForms.{IsBlockFormOf, decomposition_of}
 use Rattle.blocktri.specs.Compressed.{CompressedLists, IsRoom, column_count, row_count}
 use Rattle.blocktri.specs.Diagonal.{KeepsDiagonal}
 use Rattle.blocktri.specs.Forms.{TellsIf}
 use Rattle.blocktri.specs.OuterComponents.{TellsComponents}
 use Rattle.blocktri.specs.Written.{IsPut}
+use Rattle.blocktri.specs.declared.forms.BlockForm.{BlockForm}
 use Rattle.blocktri.specs.declared.found.Decomposed.{Decomposed}
 use Rattle.blocktri.specs.declared.found.Decomposed.TheVariants.{Coarse, Fine}
 use Rattle.blocktri.specs.declared.permuted.Permuted.{Permuted}
@@ -148,9 +148,9 @@ pub record TellsDmperm (a : Matrix) (wants : Wants) (z : Sizes) (old new : Dmper
       ((z.components ≡ None) × (new.row_component ≡ old.row_component)
       × (new.column_component ≡ old.column_component))
 
--- a decomposition and a maximum matching of one matrix
-pub record IsFormOf (a : Matrix) (d : answers.Decomposition) (m : Pairing) : Type 0 where
-  pub decomposes : Decomposes a d
+-- the form and a maximum matching of one matrix
+pub record IsFormOf (a : Matrix) (f : BlockForm) (m : Pairing) : Type 0 where
+  pub form : IsBlockFormOf a f
   pub maximum : IsMaximumOf a m
 
 -- the permutations and the cuts of a decomposition

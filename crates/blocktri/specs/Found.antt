@@ -4,10 +4,11 @@ use Rattle.bip_defs.specs.ConnectedComponents.{AreConnectedComponents}
 use Rattle.bip_defs.specs.Decomposition.{Decomposition}
 use Rattle.bip_defs.specs.Matrix.{Matrix}
 use Rattle.bip_graph.specs.Answers.{orders_of}
-use Rattle.bip_graph.specs.Decompositions.{Decomposes, HasParts, components_of, decomposition_of}
+use Rattle.bip_graph.specs.Decompositions.{HasParts, components_of}
 use Rattle.bip_graph.specs.Matching.{IsMaximumOf}
 use Rattle.bip_graph.specs.declared.answers.Components.{Components}
 use Rattle.blocktri.specs.Answers.{AreBlockStarts, Fills, TellsSizes}
+use Rattle.blocktri.specs.BlockForms.{IsBlockFormOf, decomposition_of}
 use Rattle.blocktri.specs.Diagonal.{KeepsDiagonal}
 use Rattle.blocktri.specs.Forms.{FormLists}
 use Rattle.blocktri.specs.OuterComponents.{AreColumnComponents, AreCounts, AreRowComponents}
@@ -18,10 +19,10 @@ use Rattle.blocktri.specs.declared.found.Decomposed.{Decomposed}
 use Rattle.blocktri.specs.declared.found.Decomposed.TheVariants.{Coarse, Fine}
 use Rattle.blocktri.specs.declared.sizes.Wants.{Wants}
 
--- the parts, or where the blocks are wanted the whole decomposition
+-- the parts, or where the blocks are wanted the whole form
 abbrev pub IsShapeOf : Matrix → Bool → Decomposed → Type 0
 IsShapeOf a wanted (Coarse parts) = (wanted ≡ false) × HasParts a parts
-IsShapeOf a wanted (Fine d) = (wanted ≡ true) × Decomposes a d
+IsShapeOf a wanted (Fine f) = (wanted ≡ true) × IsBlockFormOf a f
 
 -- the components of the outer parts, where they are wanted
 abbrev pub AreOuterOf : Matrix → Bool → Option Components → Type 0

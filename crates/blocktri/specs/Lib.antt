@@ -1,5 +1,6 @@
 pub mod Agreements
 pub mod Answers
+pub mod BlockForms
 pub mod BlockOrders
 pub mod Causes
 pub mod Compressed
@@ -10,6 +11,7 @@ pub mod Dmperm
 pub mod Forms
 pub mod Found
 pub mod Looks
+pub mod Matched
 pub mod OuterComponents
 pub mod PerfectMatchings
 pub mod RisingColumns

@@ -34,9 +34,17 @@ use std::alloc::Global;
 /// for: its lists stay as they are, and its number in the sizes is `None`. After an `Err` nothing
 /// was written.
 ///
-/// Returns `OutOfMemory` where [`crate::rank`] does, and if it cannot allocate the tables of the
-/// parts, the blocks or the components. Work: as `rank`, what `dm_coarse::coarse_in_turn`,
-/// `dm_fine::fine` and `dm_coarse::components` say of theirs, and a write for each place of a list.
+/// A square matrix by columns goes the short way where each place of the diagonal is an entry, or
+/// where at the first look that [`crate::rank`] describes each column takes a row: all its rows
+/// and columns are in the square part, its columns are read where they lie, and no pattern is
+/// made. The call then takes 8 bytes a row and 8 a column for the matching and the parts, and for
+/// the blocks what `dm_fine::fine_by_columns` takes; its work is at most four looks at each
+/// number, what `fine_by_columns` says, and a write for each place of a list.
+///
+/// Every other matrix takes besides the pattern, what `rank` takes, and the tables of the parts
+/// and the components. Work: as `rank`, the pattern, what `dm_coarse::coarse_in_turn`,
+/// `dm_fine::fine_by_columns` and `dm_coarse::components` say of theirs, and a write for each
+/// place of a list. Returns `OutOfMemory` if it cannot allocate these.
 pub fn decomposition<N: NumberList>(
     alloc: Global,
     matrix: &Compressed<N>,

@@ -39,17 +39,17 @@ struct BestMatching {
 /// values; the least weight of no pairs is 0.
 ///
 /// Those columns stand at the first places of `shown_by`, rising; what stands farther on stays.
-/// There must be a value for each id, and `row_of_column` and `shown_by` must have a place for each
-/// column, or each of them none where it is not wanted; these lengths are looked at first. How many
-/// columns show it is told in any case. Then the matrix is checked as [`Compressed::check`] does.
-/// `SumLimit` exactly where the sum of some place's values passes the limit, `NotSquare` exactly
-/// where there are not as many rows as columns, `Singular` exactly where there are and the matrix
-/// has no perfect matching, `PriceLimit` never.
+/// There must be a value for each id, and `row_of_column` and `shown_by` must have a place for
+/// each column, or each of them none where it is not wanted; these lengths are looked at first.
+/// The number of these columns is returned whether or not they are wanted. Then the matrix is
+/// checked as [`Compressed::check`] does. `SumLimit` exactly where the sum of some place's values
+/// passes the limit, `NotSquare` exactly where there are not as many rows as columns, `Singular`
+/// exactly where there are and the matrix has no perfect matching, `PriceLimit` never.
 ///
-/// Answers `OutOfMemory` as `sp_pattern::Pattern::of_columns`, `sp_pattern::Weights::of_columns` and
-/// `bottleneck::best` do; by rows, as `sp_pattern::Pattern::of_checked_rows` and
-/// `sp_pattern::Weights::build` in place of the first two, with 16 bytes an id besides. Work: as
-/// these.
+/// Returns `OutOfMemory` where `sp_pattern::Pattern::of_columns`,
+/// `sp_pattern::Weights::of_columns` or `bottleneck::best` does; by rows, where
+/// `sp_pattern::Pattern::of_checked_rows` or `sp_pattern::Weights::build` does in place of the
+/// first two, and if it cannot allocate 16 bytes an id for these. Work: as these.
 ///
 /// [`Compressed::check`]: crate::Compressed::check
 pub fn bottleneck<N: NumberList>(

@@ -1,9 +1,12 @@
 //! Matrices that a caller has as compressed columns or as compressed rows.
 
-ghost use Rattle.std.specs.Prelude.{◌≡◌, ◌⊎◌, ◌↔◌, ◌+◌, ◌-◌, IfErr, IfOk, IsTrue, OnOk, length};
+ghost use Rattle.std.specs.Prelude.{◌≡◌, ◌⊎◌, ◌↔◌, ◌+◌, ◌-◌, IfErr, IfOk, IsOk, IsTrue, OnOk, length};
 ghost use Rattle.blocktri.specs.Compressed.{AreCompressed, IsRoom, column_count, listed, matrix_given, row_count};
 ghost use Rattle.sp_pattern.specs.ColumnErrors.{IsColumnsError};
+ghost use Rattle.sp_pattern.specs.Columns.{matrix_of};
 
+use crate::flat_look::are_columns;
+use column_lists::GivenColumns;
 use sp_ids::OutOfMemory;
 use sp_pattern::{ColumnsError, NumberList, Pattern, check_columns};
 use std::alloc::Global;
@@ -63,16 +66,23 @@ impl<N: NumberList> Compressed<N> {
     }
 
     /// Whether the lists are right, and where not, the first fault.
+    ///
+    /// Takes no memory. Work: one look at each number; where there is a fault, a second one at the
+    /// numbers up to it.
     pub fn check(&self) -> Result<(), ColumnsError>
         ensures right { OnOk result (AreCompressed self.now) }
         ensures refused { IfErr result
             (IsColumnsError self.now.others self.now.starts self.now.ids) }
+        ensures accepted { AreCompressed self.now → IsOk result }
     {
+        if are_columns(self.others, self.starts, self.ids) {
+            return Ok(());
+        }
         check_columns(self.others, self.starts, self.ids)
     }
 
-    /// The pattern of the matrix.
-    pub fn pattern(&self, alloc: Global) -> Result<Pattern, OutOfMemory>
+    // The pattern of the matrix.
+    pub(crate) fn pattern(&self, alloc: Global) -> Result<Pattern, OutOfMemory>
         requires { AreCompressed self.now }
         ensures { IfOk result (λ a. a ≡ matrix_given self.now) }
     {
@@ -84,12 +94,25 @@ impl<N: NumberList> Compressed<N> {
         }
     }
 
-    /// The pattern of the matrix whose compressed columns the lists are.
-    pub fn listed(&self, alloc: Global) -> Result<Pattern, OutOfMemory>
+    // The pattern of the matrix whose compressed columns the lists are.
+    pub(crate) fn listed(&self, alloc: Global) -> Result<Pattern, OutOfMemory>
         requires { AreCompressed self.now }
         ensures { IfOk result (λ a. a ≡ listed self.now) }
     {
         Pattern::of_checked_columns(alloc, self.others as u32, self.starts, self.ids)
+    }
+
+    // The columns, where the lists are compressed columns; by rows, those of the transpose.
+    pub(crate) fn given_columns(&self) -> GivenColumns<N>
+        requires { AreCompressed self.now }
+        ensures { matrix_of result.rows (N.numbers result.starts) (N.numbers result.ids)
+            ≡ listed self.now }
+    {
+        GivenColumns {
+            rows: self.others as u32,
+            starts: self.starts,
+            ids: self.ids,
+        }
     }
 
     // How many columns, or by rows how many rows, the starts are of.

@@ -4,22 +4,23 @@ ghost use Rattle.std.specs.Prelude.{◌≡◌, ℕ, ◌+◌, ◌<◌, ◌^◌, I
 ghost use Rattle.bip_defs.specs.Blocks.{all_cols};
 ghost use Rattle.bip_defs.specs.Lists.{Among};
 ghost use Rattle.bip_defs.specs.Matching.{cols_of};
-ghost use Rattle.bip_defs.specs.Matrix.{Matrix};
+ghost use Rattle.bip_defs.specs.Matrix.{Matrix, cols};
 ghost use Rattle.bip_graph.specs.Answers.{orders_of};
-ghost use Rattle.bip_graph.specs.Decompositions.{decomposition_of};
 ghost use Rattle.blocktri.specs.Answers.{AreBlockStarts, Fills};
-ghost use Rattle.blocktri.specs.BlockOrders.{AreMatesOf, HaveOrderRoom, IsPerfectOf, TellsSquare, order_lists};
+ghost use Rattle.blocktri.specs.BlockForms.{decomposition_of};
+ghost use Rattle.blocktri.specs.BlockOrders.{AreMatesOf, HaveOrderRoom, IsOrderedOf, IsPerfectOf, TellsSquare, order_lists};
 ghost use Rattle.blocktri.specs.Causes.{RefusesRightly};
-ghost use Rattle.blocktri.specs.Compressed.{HasMatrix, IsRoom};
+ghost use Rattle.blocktri.specs.Compressed.{AreCompressed, HasMatrix, IsRoom, matrix_given};
 
 use crate::compressed::{Compressed, is_room, is_room_and_one};
-use crate::found::{parts_of, with_blocks};
+use crate::forms::{BlockForm, perfect_form};
+use crate::matched::{MatchedMatrix, find_matching};
 use crate::mates::write_wanted_rows;
-use crate::maximum::matched;
 use crate::orders::{write_block_starts, write_column_order};
 use crate::refusals::Refusal;
-use bip_graph::{Decomposition, Matching};
-use sp_ids::Col;
+use bip_graph::Matching;
+use column_lists::PatternColumns;
+use sp_ids::{Col, OutOfMemory};
 use sp_pattern::NumberList;
 use std::alloc::Global;
 
@@ -50,9 +51,15 @@ pub enum SquareOrder {
 /// looked at first. Where `wants_blocks` is false no blocks are looked for, and the first three
 /// lists stay as they are. After an `Err` nothing was written.
 ///
-/// Returns `OutOfMemory` where [`crate::rank`] does, and if it cannot allocate the tables of the
-/// parts or the blocks. Work: as `rank`, what `dm_coarse::coarse_in_turn` and `dm_fine::fine` say of
-/// theirs, and one read and three writes for each column.
+/// A matrix by columns goes the short way where each place of the diagonal is an entry, or where
+/// at the first look that [`crate::rank`] describes each column takes a row: the columns are read
+/// where they lie, and no pattern is made. The call then takes 8 bytes a row and 8 a column for
+/// the matching and the parts, and what `dm_fine::fine_by_columns` takes; its work is at most four
+/// looks at each number, what `fine_by_columns` says, and one read and three writes for each
+/// column.
+///
+/// Every other matrix takes besides the pattern and what `rank` takes, with the work of both.
+/// Returns `OutOfMemory` if it cannot allocate these.
 pub fn block_order<N: NumberList>(
     alloc: Global,
     matrix: &Compressed<N>,
@@ -82,24 +89,55 @@ pub fn block_order<N: NumberList>(
     if matrix.rows() != matrix.columns() {
         return Ok(SquareOrder::NotSquare);
     }
-    let (pattern, matching, marks) = matched(alloc, matrix)?;
+    let (matching, form) = ordered(alloc, matrix, wants_blocks)?;
     if matching.size() != matching.rows() {
         return Ok(SquareOrder::Singular(matching.size()));
     }
-    if !wants_blocks {
-        write_wanted_rows(&matching, row_of_column);
-        return Ok(SquareOrder::Full(None));
-    }
-    let parts = parts_of(alloc, &pattern, &matching, marks)?;
-    let form = with_blocks(alloc, &pattern, &matching, parts)?;
     write_wanted_rows(&matching, row_of_column);
-    write_orders(&form, &matching, row_order, column_order, block_starts);
-    Ok(SquareOrder::Full(Some(form.blocks.len() as u32)))
+    match form {
+        None => Ok(SquareOrder::Full(None)),
+        Some(form) => {
+            write_orders(&form, &matching, row_order, column_order, block_starts);
+            Ok(SquareOrder::Full(Some(form.blocks.len() as u32)))
+        }
+    }
+}
+
+// A maximum matching of a square matrix, and the form where it is wanted and the matching is
+// perfect.
+fn ordered<N: NumberList>(
+    alloc: Global,
+    matrix: &Compressed<N>,
+    wants_blocks: bool,
+) -> Result<(Matching, Option<BlockForm>), OutOfMemory>
+    requires compressed { AreCompressed matrix.now }
+    requires square { (matrix_given matrix.now).rows ≡ cols (matrix_given matrix.now) }
+    ensures { IfOk result (λ o. IsOrderedOf (matrix_given matrix.now) wants_blocks o.0 o.1) }
+{
+    match find_matching(alloc, matrix)? {
+        MatchedMatrix::Perfect(matching) => {
+            if !wants_blocks {
+                return Ok((matching, None));
+            }
+            let form = perfect_form(alloc, matrix.given_columns(), &matching)?;
+            Ok((matching, Some(form)))
+        }
+        MatchedMatrix::Searched(search) => {
+            if !wants_blocks || search.matching.size() != search.matching.rows() {
+                return Ok((search.matching, None));
+            }
+            let columns = PatternColumns {
+                pattern: &search.pattern,
+            };
+            let form = perfect_form(alloc, columns, &search.matching)?;
+            Ok((search.matching, Some(form)))
+        }
+    }
 }
 
 // Writes the orders and the block starts, those of them that are wanted.
 fn write_orders(
-    form: &Decomposition,
+    form: &BlockForm,
     matching: &Matching,
     row_order: &mut [u32],
     column_order: &mut [u32],

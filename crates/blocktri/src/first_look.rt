@@ -28,9 +28,9 @@ pub enum Look {
 
 /// The matching in which each column has the first of its rows that no column before it has.
 ///
-/// Where it matches each column or each row that has entries, it is maximum. Answers `OutOfMemory`
-/// where 4 bytes a row and 4 a column can't be had, and 1 a row where it need not be maximum. Work:
-/// two looks at each number at most.
+/// Where it matches each column or each row that has entries, it is maximum. Returns `OutOfMemory`
+/// if it cannot allocate 4 bytes a row and 4 a column, or 1 a row more where neither the columns
+/// show that it is maximum nor the number of its pairs. Work: two looks at each number at most.
 pub fn first_look<N: NumberList>(
     alloc: Global,
     rows: u32,

@@ -1,31 +1,35 @@
 //! What is found of a matrix before anything is written: a maximum matching, the parts, the fine
 //! blocks and the connected components of the outer parts, as far as they are wanted.
 
-ghost use Rattle.std.specs.Prelude.{◌≡◌, ◌<◌, ◌^◌, IfOk, IfSome};
-ghost use Rattle.bip_defs.specs.Matrix.{cols};
-ghost use Rattle.bip_graph.specs.Decompositions.{Decomposes, HasParts};
-ghost use Rattle.bip_graph.specs.Matching.{IsMaximumOf};
+ghost use Rattle.std.specs.Prelude.{◌≡◌, ◌<◌, ◌^◌, IfOk, IfSome, false};
+ghost use Rattle.bip_defs.specs.Matrix.{Matrix, cols};
+ghost use Rattle.bip_graph.specs.Decompositions.{HasParts};
+ghost use Rattle.bip_graph.specs.Matching.{IsMaximumOf, Pairing};
 ghost use Rattle.bip_graph.specs.OuterMarks.{AreOuterMarks};
 ghost use Rattle.blocktri.specs.Compressed.{AreCompressed, matrix_given};
+ghost use Rattle.blocktri.specs.Diagonal.{KeepsDiagonal};
 ghost use Rattle.blocktri.specs.Found.{AreOuterOf, IsFoundOf};
+ghost use Rattle.blocktri.specs.Matched.{IsSearchOf};
+ghost use Rattle.blocktri.specs.PerfectMatchings.{IsPerfectMatching};
 
 use crate::compressed::Compressed;
-use crate::maximum::matched;
+use crate::forms::{BlockForm, form_of_parts, perfect_form, square_parts};
+use crate::matched::{MatchedMatrix, SearchedMatrix, find_matching};
 use crate::sizes::Wants;
-use bip_graph::{Components, Decomposition, Matching, OuterMarks, Parts};
+use bip_graph::{Blocks, Components, Matching, OuterMarks, Parts};
+use column_lists::PatternColumns;
 use dm_coarse::{coarse_by_marks, coarse_in_turn, components};
-use dm_fine::fine;
 use sp_ids::OutOfMemory;
 use sp_pattern::{NumberList, Pattern};
 use std::alloc::Global;
 
-/// The parts, or the whole decomposition.
+/// The parts, or the whole form.
 #[derive(Drop)]
 pub enum Decomposed {
     /// Without the fine blocks.
     Coarse(Parts),
     /// With the fine blocks.
-    Fine(Decomposition),
+    Fine(BlockForm),
 }
 
 /// What is found of a matrix.
@@ -45,11 +49,53 @@ pub fn find<N: NumberList>(
     requires { AreCompressed matrix.now }
     ensures { IfOk result (IsFoundOf (matrix_given matrix.now) wants) }
 {
-    let (pattern, matching, marks) = matched(alloc, matrix)?;
+    match find_matching(alloc, matrix)? {
+        MatchedMatrix::Perfect(matching) => find_perfect(alloc, matrix, matching, wants),
+        MatchedMatrix::Searched(search) => find_searched(alloc, search, wants),
+    }
+}
+
+// What is found from a perfect matching of compressed columns: there are no outer parts.
+fn find_perfect<N: NumberList>(
+    alloc: Global,
+    matrix: &Compressed<N>,
+    matching: Matching,
+    wants: Wants,
+) -> Result<Found, OutOfMemory>
+    requires compressed { AreCompressed matrix.now }
+    requires by_columns { matrix.now.by_rows ≡ false }
+    requires perfect { IsPerfectMatching (matrix_given matrix.now) matching }
+    requires diagonal { KeepsDiagonal (matrix_given matrix.now) matching.pairs }
+    ensures { IfOk result (IsFoundOf (matrix_given matrix.now) wants) }
+{
+    let shape = if wants.blocks {
+        Decomposed::Fine(perfect_form(alloc, matrix.given_columns(), &matching)?)
+    } else {
+        Decomposed::Coarse(square_parts(alloc, &matching)?)
+    };
+    let outer = no_outer(alloc, wants.components);
+    Ok(Found {
+        matching,
+        shape,
+        outer,
+    })
+}
+
+// What is found from a maximum matching and the pattern.
+fn find_searched(alloc: Global, search: SearchedMatrix, wants: Wants) -> Result<Found, OutOfMemory>
+    requires { IsSearchOf search.pattern search }
+    ensures { IfOk result (IsFoundOf search.pattern wants) }
+{
+    let SearchedMatrix {
+        pattern,
+        matching,
+        marks,
+    } = search;
     let parts = parts_of(alloc, &pattern, &matching, marks)?;
     let outer = outer_of(alloc, &pattern, &parts, wants.components)?;
     let shape = if wants.blocks {
-        Decomposed::Fine(with_blocks(alloc, &pattern, &matching, parts)?)
+        let columns = PatternColumns { pattern: &pattern };
+        Decomposed::Fine(form_of_parts(alloc, columns, &matching, parts)?)
     } else {
         Decomposed::Coarse(parts)
     };
@@ -60,8 +106,8 @@ pub fn find<N: NumberList>(
     })
 }
 
-/// The parts, by what the last phase has marked where that is known.
-pub fn parts_of(
+// The parts, by what the last phase has marked where that is known.
+fn parts_of(
     alloc: Global,
     pattern: &Pattern,
     matching: &Matching,
@@ -75,28 +121,6 @@ pub fn parts_of(
         Some(marks) => coarse_by_marks(alloc, pattern, matching, &marks),
         None => coarse_in_turn(alloc, pattern, matching),
     }
-}
-
-/// The decomposition, from the parts.
-pub fn with_blocks(
-    alloc: Global,
-    pattern: &Pattern,
-    matching: &Matching,
-    parts: Parts,
-) -> Result<Decomposition, OutOfMemory>
-    requires maximum { IsMaximumOf pattern.now matching.now }
-    requires parts { HasParts pattern.now parts }
-    ensures { IfOk result (Decomposes pattern.now) }
-{
-    let blocks = fine(alloc, pattern, matching, &parts)?;
-    Ok(Decomposition {
-        m: pattern.rows(),
-        n: pattern.cols(),
-        e: pattern.entries(),
-        rank: matching.size(),
-        parts,
-        blocks,
-    })
 }
 
 // The components of the outer parts, where they are wanted.
@@ -116,4 +140,17 @@ fn outer_of(
     }
     let found = components(alloc, pattern, parts)?;
     Ok(Some(found))
+}
+
+// The same of a square matrix with a perfect matching, which has no outer parts.
+fn no_outer(alloc: Global, is_wanted: bool) -> Option<Components>
+    ensures { (a : Matrix) (m : Pairing) → IsPerfectMatching a m → AreOuterOf a is_wanted result }
+{
+    if !is_wanted {
+        return None;
+    }
+    Some(Components {
+        horizontal: Blocks::new(alloc),
+        vertical: Blocks::new(alloc),
+    })
 }

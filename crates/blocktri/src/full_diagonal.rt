@@ -3,6 +3,7 @@
 ghost use Rattle.std.specs.Prelude.{◌≡◌, ◌↔◌, ℕ, ◌<◌, ◌≤◌, IfNone, IfOk, IfSome, IsTrue, length};
 ghost use Rattle.std.specs.List.{slice_range};
 ghost use Rattle.bip_defs.specs.Lists.{Among};
+ghost use Rattle.bip_defs.specs.Matching.{IsRank};
 ghost use Rattle.bip_graph.specs.Matching.{IsMaximumOf, IsPairing};
 ghost use Rattle.blocktri.specs.Compressed.{AreCompressed, listed, matrix_given};
 ghost use Rattle.blocktri.specs.Diagonal.{HasDiagonal, IsDiagonalFull};
@@ -32,6 +33,22 @@ pub fn full_diagonal<N: NumberList>(
     }
     let matching = diagonal(alloc, matrix.rows() as u32, matrix.columns() as u32)?;
     Ok(Some(matching))
+}
+
+/// The rank, where each place of the diagonal is an entry.
+///
+/// Takes no memory. Work: one look at each number at most, up to the first column without its entry
+/// of the diagonal.
+pub fn diagonal_rank<N: NumberList>(matrix: &Compressed<N>) -> Option<u32>
+    requires { AreCompressed matrix.now }
+    ensures { IfSome result (IsRank (matrix_given matrix.now)) }
+{
+    if is_diagonal_full(matrix) {
+        let (rows, columns) = (matrix.rows(), matrix.columns());
+        let sides = if rows < columns { rows } else { columns };
+        return Some(sides as u32);
+    }
+    None
 }
 
 // Whether each place of the diagonal is an entry.

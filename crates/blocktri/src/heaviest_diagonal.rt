@@ -49,11 +49,12 @@ struct Diagonal {
 /// has no perfect matching; `PriceLimit` exactly where prices are wanted and none that show it all
 /// fit 64 bits.
 ///
-/// Answers `OutOfMemory` as `sp_pattern::Pattern::of_columns`, `sp_pattern::Weights::of_columns` and
-/// `integer_diagonal::heaviest` do; by rows, as `sp_pattern::Pattern::of_checked_rows` and
-/// `sp_pattern::Weights::build` in place of the first two, with 16 bytes an id besides. Work: as
-/// these; where prices are wanted and those that were found do not fit, looks besides at all
-/// entries, as many times at most as there are rows.
+/// Returns `OutOfMemory` where `sp_pattern::Pattern::of_columns`,
+/// `sp_pattern::Weights::of_columns` or `integer_diagonal::heaviest` does; by rows, where
+/// `sp_pattern::Pattern::of_checked_rows` or `sp_pattern::Weights::build` does in place of the
+/// first two, and if it cannot allocate 16 bytes an id for these. Work: as these; where prices are
+/// wanted and those that were found do not fit, looks besides at all entries, as many times at
+/// most as there are rows.
 ///
 /// [`Compressed::check`]: crate::Compressed::check
 pub fn heaviest<N: NumberList>(

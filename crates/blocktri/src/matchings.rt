@@ -23,10 +23,14 @@ use std::alloc::Global;
 /// `row_of_column` must have a place for each column and `column_of_row` for each row. A list of
 /// length 0 is not wanted. These lengths are looked at first. After an `Err` nothing was written.
 ///
-/// Returns `OutOfMemory` where [`crate::rank`] does, and for the least matching where
-/// `least_match::least` does. Work: as `rank`, one more look at each number at most, and one write
-/// for each place of a list; for the least matching, where the first look finds no maximum one, the
-/// start of Karp and Sipser and phases from it, and what `least_match::least` says of its.
+/// Where each place of the diagonal is an entry, or the first look that [`crate::rank`] describes
+/// finds a maximum matching, the call makes no pattern, unless the least matching is asked for.
+///
+/// Returns `OutOfMemory` if it cannot allocate 4 bytes a row and 4 a column, and where `rank` does;
+/// for the least matching also if it cannot allocate the pattern, and where `least_match::least`
+/// does. Work: as `rank`, and one write for each place of a list; for the least matching the
+/// pattern, where the first look finds no maximum one the start of Karp and Sipser and phases from
+/// it, and what `least_match::least` says of its.
 pub fn matching<N: NumberList>(
     alloc: Global,
     matrix: &Compressed<N>,

@@ -6,12 +6,10 @@ ghost use Rattle.bip_defs.specs.Parts.{IsHorizontalRow};
 ghost use Rattle.bip_graph.specs.Matching.{IsMatchingOf, IsMaximumOf};
 ghost use Rattle.bip_graph.specs.OuterMarks.{AreOuterMarks};
 ghost use Rattle.blocktri.specs.Compressed.{AreCompressed, listed, matrix_given};
-ghost use Rattle.blocktri.specs.Diagonal.{KeepsDiagonal};
 ghost use Rattle.blocktri.specs.Looks.{IsLook};
 
 use crate::compressed::Compressed;
 use crate::first_look::{Look, first_look};
-use crate::full_diagonal::full_diagonal;
 use crate::rising_columns::{RisingColumns, are_rising};
 use bip_graph::{Matching, Opposite, OuterMarks, matchings_of_the_transpose};
 use breadth_first_match::{complete_from_with_marks, complete_with_marks};
@@ -58,27 +56,6 @@ pub fn maximum_matching<N: NumberList>(
     }
 }
 
-/// The pattern, a maximum matching that keeps a full diagonal, and what the last phase has marked,
-/// unless the diagonal, the first look or a first phase alone has found it.
-pub fn matched<N: NumberList>(
-    alloc: Global,
-    matrix: &Compressed<N>,
-) -> Result<(Pattern, Matching, Option<OuterMarks>), OutOfMemory>
-    requires { AreCompressed matrix.now }
-    ensures pattern { IfOk result (λ p. p.0 ≡ matrix_given matrix.now) }
-    ensures maximum { IfOk result (λ p. IsMaximumOf (matrix_given matrix.now) p.1) }
-    ensures diagonal { IfOk result (λ p. KeepsDiagonal (matrix_given matrix.now) p.1.pairs) }
-    ensures marks { IfOk result
-        (λ p. IfSome p.2 (AreOuterMarks (matrix_given matrix.now))) }
-{
-    let pattern = matrix.pattern(alloc)?;
-    if let Some(matching) = full_diagonal(alloc, matrix)? {
-        return Ok((pattern, matching, None));
-    }
-    let (matching, marks) = looked_for(alloc, matrix, &pattern)?;
-    Ok((pattern, matching, marks))
-}
-
 /// The pattern, and a maximum matching for who looks for the least one: the first look's where that
 /// is maximum, and else one by phases from the start of Karp and Sipser. Their paths are short, so
 /// fewer exchanges lead from it to the least one than where the phases begin at the first look.
@@ -101,28 +78,9 @@ pub fn matched_for_the_least<N: NumberList>(
     Ok((pattern, matching))
 }
 
-// A maximum matching, from the first look at the columns; of compressed rows, which cannot be looked
-// at column by column, from the start of Karp and Sipser.
-fn looked_for<N: NumberList>(
-    alloc: Global,
-    matrix: &Compressed<N>,
-    pattern: &Pattern,
-) -> Result<(Matching, Option<OuterMarks>), OutOfMemory>
-    requires compressed { AreCompressed matrix.now }
-    requires pattern { pattern.now ≡ matrix_given matrix.now }
-    ensures maximum { IfOk result (λ p. IsMaximumOf pattern.now p.0) }
-    ensures marks { IfOk result (λ p. IfSome p.1 (AreOuterMarks pattern.now)) }
-{
-    if matrix.by_rows {
-        return search_anew(alloc, pattern);
-    }
-    let look = first_look(alloc, matrix.others as u32, matrix.starts, matrix.ids)?;
-    searched(alloc, pattern, look)
-}
-
-// A maximum matching, from what a look at the columns found, or from the start of Karp and Sipser
-// where searches from there do not go on, and what the last phase has marked.
-fn searched(
+/// A maximum matching, from what a look at the columns found, or from the start of Karp and Sipser
+/// where searches from there do not go on, and what the last phase has marked.
+pub fn searched(
     alloc: Global,
     pattern: &Pattern,
     look: Look,
@@ -218,8 +176,8 @@ fn pays(growth: u32, unmatched: u32) -> bool {
     growth >= unmatched - unmatched / 4 || growth <= unmatched / 4
 }
 
-// A maximum matching, from the start of Karp and Sipser, and what the last phase has marked.
-fn search_anew(
+/// A maximum matching, from the start of Karp and Sipser, and what the last phase has marked.
+pub fn search_anew(
     alloc: Global,
     pattern: &Pattern,
 ) -> Result<(Matching, Option<OuterMarks>), OutOfMemory>

@@ -5,15 +5,16 @@ ghost use Rattle.bip_defs.specs.Blocks.{all_rows};
 ghost use Rattle.bip_defs.specs.Lists.{Among, IsRising};
 ghost use Rattle.bip_defs.specs.Matching.{cols_of, rows_of};
 ghost use Rattle.bip_defs.specs.Matrix.{Matrix, cols};
-ghost use Rattle.bip_graph.specs.Decompositions.{decomposition_of};
 ghost use Rattle.blocktri.specs.Answers.{Fills};
+ghost use Rattle.blocktri.specs.BlockForms.{decomposition_of};
 ghost use Rattle.blocktri.specs.Compressed.{IsRoom};
 ghost use Rattle.blocktri.specs.Dmperm.{Grows, IsColumnOrder, IsFormOf, IsPermutedOf, IsRowOrderOf, cuts_of};
 ghost use Rattle.blocktri.specs.Written.{IsPut};
 
+use crate::forms::BlockForm;
 use crate::orders::lengths_add_up;
 use crate::write::write_at;
-use bip_graph::{Decomposition, Matching, orders_are_block_upper_triangular};
+use bip_graph::{Matching, orders_are_block_upper_triangular};
 use sp_ids::{Col, OutOfMemory, Row};
 use std::alloc::Global;
 
@@ -29,7 +30,7 @@ pub struct Permuted {
 /// The permutations and the cuts of a decomposition and a maximum matching.
 pub fn permute(
     alloc: Global,
-    form: &Decomposition,
+    form: &BlockForm,
     matching: &Matching,
 ) -> Result<Permuted, OutOfMemory>
     requires { (a : Matrix) × IsFormOf a form.now matching.now × (a.rows < 2 ^ 32)
@@ -78,7 +79,7 @@ pub fn write_permuted(order: &Permuted, p: &mut [u32], q: &mut [u32], r: &mut [u
 // The columns without a row, the other horizontal ones, those of the blocks, and the vertical ones.
 fn column_order(
     alloc: Global,
-    form: &Decomposition,
+    form: &BlockForm,
     matching: &Matching,
 ) -> Result<Vec<Col>, OutOfMemory>
     requires { (a : Matrix) × IsFormOf a form.now matching.now }
@@ -119,7 +120,7 @@ fn push_columns(
 // The mate of each column that has one, in the order of the columns, and the rows without a column.
 fn row_order(
     alloc: Global,
-    form: &Decomposition,
+    form: &BlockForm,
     matching: &Matching,
     columns: &[Col],
 ) -> Result<Vec<Row>, OutOfMemory>
@@ -159,12 +160,7 @@ fn push_unmatched_rows(
 
 // Where the horizontal part, each block and the vertical part begin, of those that there are, and
 // the end, on a side with so many horizontal numbers.
-fn cuts(
-    alloc: Global,
-    form: &Decomposition,
-    horizontal: u32,
-    end: u32,
-) -> Result<Vec<u32>, OutOfMemory>
+fn cuts(alloc: Global, form: &BlockForm, horizontal: u32, end: u32) -> Result<Vec<u32>, OutOfMemory>
     requires few { horizontal + length (all_rows form.now.blocks) < 2 ^ 32 }
     requires blocks { length form.now.blocks < 2 ^ 32 }
     ensures { IfOk result

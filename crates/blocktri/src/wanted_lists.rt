@@ -4,16 +4,18 @@ ghost use Rattle.std.specs.Prelude.{◌≡◌, ◌+◌, ◌<◌, ◌^◌, ℕ, B
 ghost use Rattle.bip_defs.specs.ConnectedComponents.{AreConnectedComponents};
 ghost use Rattle.bip_defs.specs.Matrix.{Matrix, cols};
 ghost use Rattle.bip_graph.specs.Answers.{orders_of};
-ghost use Rattle.bip_graph.specs.Decompositions.{Decomposes, components_of, decomposition_of};
+ghost use Rattle.bip_graph.specs.Decompositions.{components_of};
 ghost use Rattle.blocktri.specs.Answers.{AreBlockStarts, Fills};
+ghost use Rattle.blocktri.specs.BlockForms.{IsBlockFormOf, decomposition_of};
 ghost use Rattle.blocktri.specs.Compressed.{IsRoom};
 ghost use Rattle.blocktri.specs.Found.{AreOuterOf, HasColumnComponents, HasOrder, HasRowComponents, HasStarts, IsShapeOf, columns_in_order, rows_in_order};
 ghost use Rattle.blocktri.specs.OuterComponents.{AreColumnComponents, AreRowComponents};
 
 use crate::component_numbers::{write_column_components, write_row_components};
+use crate::forms::BlockForm;
 use crate::found::Decomposed;
 use crate::orders::{write_block_starts, write_column_order, write_row_order};
-use bip_graph::{Components, Decomposition};
+use bip_graph::Components;
 
 /// Writes the orders and the block starts, where the decomposition is known.
 pub fn write_shape(
@@ -61,12 +63,12 @@ pub fn write_outer(
 
 // Writes the orders and the block starts of a decomposition.
 fn write_wanted_orders(
-    form: &Decomposition,
+    form: &BlockForm,
     row_order: &mut [u32],
     column_order: &mut [u32],
     block_starts: &mut [u32],
 )
-    requires some { (a : Matrix) × Decomposes a form.now × (a.rows < 2 ^ 32) }
+    requires some { (a : Matrix) × IsBlockFormOf a form.now × (a.rows < 2 ^ 32) }
     requires rows { IsRoom form.now.m row_order.old }
     requires columns { IsRoom form.now.n column_order.old }
     requires starts { IsRoom (form.now.n + 1) block_starts.old }

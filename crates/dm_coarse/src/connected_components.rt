@@ -11,10 +11,11 @@ ghost use Rattle.dm_coarse.specs.Gathered.{AreGathered};
 ghost use Rattle.id_groups.specs.Groups.{block_of};
 
 use bip_graph::{Blocks, Components, Parts};
+use column_lists::{ColumnLists, PatternColumns, PatternRows};
 use id_groups::{Groups, gather};
-use outer_components::{ColumnLists, number_components};
+use outer_components::number_components;
 use sp_ids::{Col, Id, OutOfMemory, Row};
-use sp_pattern::{FromRows, Pattern};
+use sp_pattern::Pattern;
 use std::alloc::Global;
 
 /// The connected components of the horizontal and of the vertical part, from the parts: all of
@@ -59,7 +60,7 @@ fn horizontal_components(
         return Ok(Blocks::new(alloc));
     }
     pattern.is_pattern();
-    let found = join_part::<Row, Col, Pattern>(alloc, pattern, cols)?;
+    let found = join_part::<Row, Col, PatternColumns>(alloc, PatternColumns { pattern }, cols)?;
     let (rows, cols) = found;
     listed(alloc, &rows, &cols, parts.hr.len(), parts.hc.len())
 }
@@ -79,23 +80,22 @@ fn vertical_components(
         return Ok(Blocks::new(alloc));
     }
     pattern.is_pattern();
-    let from_rows = FromRows { pattern };
-    let found = join_part::<Col, Row, FromRows>(alloc, &from_rows, rows)?;
+    let found = join_part::<Col, Row, PatternRows>(alloc, PatternRows { pattern }, rows)?;
     let (cols, rows) = found;
     listed(alloc, &rows, &cols, parts.vr.len(), parts.vc.len())
 }
 
 // The rows and the columns of each component of the horizontal part of the matrix of these lists,
 // which has these columns.
-fn join_part<F: Id, N: Id, L: ColumnLists<F>>(
+fn join_part<F: Id, N: Id, L: ColumnLists>(
     alloc: Global,
-    lists: &L,
+    lists: L,
     columns: &[N],
 ) -> Result<(Groups<F>, Groups<N>), OutOfMemory>
-    requires columns { Lists (IsHorizontalCol (L.matrix lists.now)) (map N.number columns.now) }
-    requires few_rows { Matrix.rows (L.matrix lists.now) < 2 ^ 32 }
-    requires few_cols { cols (L.matrix lists.now) < 2 ^ 32 }
-    ensures { IfOk result (λ g. AreGathered (L.matrix lists.now) (length g.1) g.0 g.1) }
+    requires columns { Lists (IsHorizontalCol (L.matrix lists)) (map N.number columns.now) }
+    requires few_rows { Matrix.rows (L.matrix lists) < 2 ^ 32 }
+    requires few_cols { cols (L.matrix lists) < 2 ^ 32 }
+    ensures { IfOk result (λ g. AreGathered (L.matrix lists) (length g.1) g.0 g.1) }
 {
     let numbers = number_components(alloc, lists, columns)?;
     let rows = gather(alloc, numbers.rows.as_slice(), numbers.count)?;

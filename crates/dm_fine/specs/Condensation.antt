@@ -1,33 +1,33 @@
--- The condensation of the square part: its strong components, and the edges between them.
-use Rattle.std.specs.Prelude.{◌≡◌, ℕ, ◌^◌, ◌<◌, List, length, slice_index, sum_by}
+-- The condensation of the square part: its strong components with their rows and columns.
+use Rattle.std.specs.Prelude.{◌≡◌, ℕ, List, length}
 use Rattle.bip_defs.specs.Matching.{IsMatching}
-use Rattle.bip_defs.specs.Matrix.{Matrix, Place, row_list, upto}
-use Rattle.dm_fine.specs.Edges.{edges_into, row_edges}
-use Rattle.dm_fine.specs.Groups.{AreRowGroups}
-use Rattle.dm_fine.specs.Renumbering.{AreNumberedByLeast}
-use Rattle.dm_fine.specs.declared.condensation.Condensation.{Condensation}
+use Rattle.bip_defs.specs.Matrix.{Matrix, Place}
+use Rattle.square_components.specs.Groups.{AreOfMates}
+use Rattle.dm_fine.specs.Layout.{IsLayout, Layout}
+use Rattle.square_components.specs.Renumbering.{AreNumberedByLeast}
 use Rattle.id_groups.specs.Groups.{AreGroups}
 
--- the components are numbered by their least columns, and the rows of each are the mates of its columns in a matching
-pub record IsCondensation (g : Condensation) : Type 0 where
+-- The components are numbered by their least columns, and the rows of each are the mates of its columns in a matching.
+-- These are the numbers of the rows.
+pub record IsCondensation (t : Layout) (of_rows : List ℕ) : Type 0 where
+  pub laid_out : IsLayout t
   pub pairs : List Place
-  pub matching : IsMatching g.pattern.now pairs
-  pub numbered : AreNumberedByLeast g.pattern.now pairs g.numbers.items (length g.cols)
-  pub few : length g.cols < 2 ^ 32
-  pub by_row : AreRowGroups pairs g.numbers.items (Matrix.rows g.pattern.now) (length g.cols) g.rows
-  pub by_col : AreGroups g.numbers.items (length g.cols) g.cols
+  pub numbers : List ℕ
+  pub matching : IsMatching t.matrix pairs
+  pub numbered : AreNumberedByLeast t.matrix pairs numbers (length t.cols)
+  pub mates : AreOfMates pairs numbers t.matrix.rows of_rows
+  pub by_row : AreGroups of_rows (length t.cols) t.rows
+  pub by_col : AreGroups numbers (length t.cols) t.cols
 
--- the edges from component k
-abbrev pub edges_from : Condensation → ℕ → ℕ → ℕ
-edges_from g k j = edges_into (row_list g.pattern.now) g.numbers.items g.rows j k
+-- The numbers of the rows and the columns of the square part: components are numbered by their least columns, and a row
+-- has the number of its mate in a matching.
+pub record IsNumbering (a : Matrix) (of_rows of_cols : List ℕ) (count : ℕ) : Type 0 where
+  pub pairs : List Place
+  pub matching : IsMatching a pairs
+  pub numbered : AreNumberedByLeast a pairs of_cols count
+  pub mates : AreOfMates pairs of_cols a.rows of_rows
 
--- those of a row of component k
-abbrev pub edges_from_row : Condensation → ℕ → ℕ → ℕ → ℕ
-edges_from_row g k r j = row_edges g.numbers.items k (row_list g.pattern.now r) j
-
--- how many edges lead into each component of a condensation
-pub record AreInDegrees (g : Condensation) (in_degrees : List ℕ) : Type 0 where
-  pub made : IsCondensation g
-  pub long : length in_degrees ≡ length g.cols
-  pub each : (j : ℕ) → j < length g.cols → slice_index in_degrees j
-      ≡ sum_by (λ k. edges_from g k j) (upto (length g.cols))
+-- the condensation by these numbers
+pub record IsCondensationBy (t : Layout) (of_rows of_cols : List ℕ) : Type 0 where
+  pub made : IsCondensation t of_rows
+  pub numbers_are : made.numbers ≡ of_cols

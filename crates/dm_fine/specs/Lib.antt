@@ -1,6 +1,6 @@
+pub mod BlockOrder
 pub mod Condensation
-pub mod Edges
 pub mod Groups
-pub mod Numbers
-pub mod Renumbering
-pub mod Sources
+pub mod Layout
+pub mod Waiting
+pub mod Waits

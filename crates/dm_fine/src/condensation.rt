@@ -1,99 +1,102 @@
 //! The strong components with their rows and columns.
 
-ghost use Rattle.std.specs.Prelude.{◌≡◌, ℕ, ◌<◌, length, IfOk};
-ghost use Rattle.bip_defs.specs.Lists.{Among};
-ghost use Rattle.bip_graph.specs.Matching.{IsMatchingOf};
-ghost use Rattle.dm_fine.specs.Condensation.{AreInDegrees};
-ghost use Rattle.dm_fine.specs.Groups.{AreOfMates, IsOfMate};
-ghost use Rattle.dm_fine.specs.Renumbering.{AreNumberedByLeast};
-ghost use Rattle.sp_pattern.specs.Stored.{IsPattern};
+ghost use Rattle.std.specs.Prelude.{◌≡◌, ◌<◌, [], length, map, IfOk, OnOk};
+ghost use Rattle.bip_defs.specs.Matrix.{Matrix, upto};
+ghost use Rattle.dm_fine.specs.Condensation.{IsCondensationBy, IsNumbering};
+ghost use Rattle.dm_fine.specs.Layout.{IsLayout, layout};
+ghost use Rattle.dm_fine.specs.Waits.{IsPassed, IsStop};
+ghost use Rattle.id_groups.specs.Groups.{block_of};
 
-use crate::in_degrees::Numbers;
-use bip_graph::Matching;
+use crate::waits::{Halt, NONE, stop_in};
+use bip_graph::Blocks;
+use column_lists::ColumnLists;
 use id_groups::{Groups, gather};
 use sp_ids::{Col, OutOfMemory, Row};
-use sp_pattern::Pattern;
-use square_components::Components;
 use std::alloc::Global;
 
-// No component has this number.
-const NONE: u32 = u32::MAX;
-
-/// The strong components of a pattern's square columns, numbered by their least columns: the number
-/// of each column, and the rows and the columns of each number.
+/// The strong components of the square columns of a matrix, by number: the rows and the columns of
+/// each.
 #[derive(Drop)]
-pub struct Condensation<'p> {
-    pub pattern: &'p Pattern,
-    pub numbers: Vec<u32>,
+pub struct Condensation<C: ColumnLists> {
+    pub columns: C,
     pub rows: Groups<Row>,
     pub cols: Groups<Col>,
 }
 
-impl<'p> Condensation<'p> {
-    /// The condensation of numbered components, and its in-degrees. The rows of a component are the
-    /// mates of its columns.
+impl<C: ColumnLists> Condensation<C> {
+    /// The components by the numbers of rows and columns. Other numbers are not below the count.
     ///
-    /// It takes 8 bytes a row, 4 a column and 12 a component, of which 4 a row are given back.
+    /// Takes 4 bytes a row, 4 a column and 8 a component, and gives the numbers of columns back.
+    /// Returns `OutOfMemory` if it cannot allocate that.
     pub fn of(
         alloc: Global,
-        pattern: &'p Pattern,
-        matching: &Matching,
-        components: Components,
-    ) -> Result<(Condensation<'p>, Vec<u32>), OutOfMemory>
-        requires pattern { IsPattern pattern.now }
-        requires matching { IsMatchingOf pattern.now matching.now }
-        requires numbered { AreNumberedByLeast pattern.now matching.now.pairs
-            components.numbers.items components.count }
-        ensures pattern { IfOk result (λ made. made.0.pattern.now ≡ pattern.now) }
-        ensures in_degrees { IfOk result (λ made. AreInDegrees made.0 made.1.items) }
+        columns: C,
+        of_rows: &[u32],
+        of_cols: Vec<u32>,
+        count: u32,
+    ) -> Result<Condensation<C>, OutOfMemory>
+        requires { IsNumbering (C.matrix columns) of_rows.now of_cols.items count }
+        ensures columns { IfOk result (λ made. made.columns ≡ columns) }
+        ensures made { IfOk result (λ made. IsCondensationBy (layout (C.matrix columns)
+            (C.listed columns) made.rows made.cols) of_rows.now of_cols.items) }
+        ensures count { IfOk result (λ made. length made.cols ≡ count) }
     {
-        let Components { numbers, count } = components;
-        let of_rows = numbers_of_mates(alloc, matching, numbers.as_slice())?;
-        let all = Numbers {
-            pattern,
-            of_cols: numbers,
-            of_rows,
-            count,
-        };
-        let in_degrees = all.in_degrees(alloc)?;
-        let rows = gather(alloc, all.of_rows.as_slice(), count)?;
-        let numbers = all.of_cols;
-        let cols = gather(alloc, numbers.as_slice(), count)?;
-        let condensation = Condensation {
-            pattern,
-            numbers,
+        columns.are_listed();
+        let rows = gather(alloc, of_rows, count)?;
+        let cols = gather(alloc, of_cols.as_slice(), count)?;
+        Ok(Condensation {
+            columns,
             rows,
             cols,
-        };
-        Ok((condensation, in_degrees))
+        })
     }
-}
 
-// For each row the number of its mate, or 2^32 - 1 where it has none.
-fn numbers_of_mates(
-    alloc: Global,
-    matching: &Matching,
-    numbers: &[u32],
-) -> Result<Vec<u32>, OutOfMemory>
-    requires { (r c : ℕ) → Among (r, c) matching.now.pairs → c < length numbers.now }
-    ensures { IfOk result
-        (λ v. AreOfMates matching.now.pairs numbers.now matching.now.rows v.items) }
-{
-    let rows = matching.rows();
-    let mut of_rows = Vec::with_capacity(alloc, rows as usize)?;
-    for row in 0..rows {
-        of_rows.push(number_of_mate(matching, numbers, Row(row)))?;
+    /// Appends the components as blocks by their numbers.
+    ///
+    /// Returns `OutOfMemory` if there is no room for them.
+    pub fn append_all(&self, blocks: &mut Blocks) -> Result<(), OutOfMemory>
+        requires long { length self.now.rows ≡ length self.now.cols }
+        requires none { blocks.old ≡ [] }
+        ensures { OnOk result (blocks.new
+            ≡ map (block_of self.now.rows self.now.cols) (upto (length self.now.cols))) }
+    {
+        for number in 0..self.cols.count() {
+            blocks.push(self.rows.of(number), self.cols.of(number))?;
+        }
+        Ok(())
     }
-    Ok(of_rows)
-}
 
-fn number_of_mate(matching: &Matching, numbers: &[u32], row: Row) -> u32
-    requires row { row < matching.now.rows }
-    requires cols { (r c : ℕ) → Among (r, c) matching.now.pairs → c < length numbers.now }
-    ensures { IsOfMate matching.now.pairs numbers.now row result }
-{
-    match matching.col_of(row) {
-        Some(col) => numbers[col.0 as usize],
-        None => NONE,
+    /// Goes over the entries of a component, column by column, from a place on to the first one in
+    /// a row of another component that is not placed. A row has the number of its component, or
+    /// `u32::MAX` where it is placed or has none.
+    #[inline(always)]
+    pub fn look(&self, of_rows: &[u32], own: u32, col: u32, at: u32) -> Halt
+        requires layout { IsLayout (layout (C.matrix self.now.columns) (C.listed self.now.columns)
+            self.now.rows self.now.cols) }
+        requires rows { length of_rows.now ≡ Matrix.rows (C.matrix self.now.columns) }
+        requires own { own < length self.now.cols }
+        requires passed { IsPassed (layout (C.matrix self.now.columns) (C.listed self.now.columns)
+            self.now.rows self.now.cols) of_rows.now own col at }
+        ensures { IsStop (layout (C.matrix self.now.columns) (C.listed self.now.columns)
+            self.now.rows self.now.cols) of_rows.now own result }
+    {
+        let cols = self.cols.of(own);
+        let mut from = at as usize;
+        for k in col as usize..cols.len() {
+            let (at, on) = stop_in(self.columns.rows_of(cols[k]), from, of_rows, own);
+            if on != NONE {
+                return Halt {
+                    col: k as u32,
+                    at: at as u32,
+                    on,
+                };
+            }
+            from = 0;
+        }
+        Halt {
+            col: cols.len() as u32,
+            at: 0,
+            on: NONE,
+        }
     }
 }

@@ -12,6 +12,7 @@ use crate::assignment::Assignment;
 use crate::fairness::at_prices;
 use crate::width::Width;
 use bip_graph::Matching;
+use column_lists::PatternColumns;
 use dm_coarse::coarse_in_turn;
 use sp_ids::{Col, Id, OutOfMemory, Row};
 use sp_pattern::{Neighbours, Pattern, Weights};
@@ -39,8 +40,8 @@ impl PriceBlocks {
     /// they are left where prices that set them apart might pass 2^62.
     ///
     /// Returns `OutOfMemory` if it cannot allocate what `dm_coarse::coarse_in_turn` and
-    /// `square_components::strong_components` take, or 4 bytes a row. Work: as these two, and one
-    /// look at each row, column and weight.
+    /// `square_components::strong_components` take. Work: as these two, and one look at each row,
+    /// column and weight.
     pub fn find(
         alloc: Global,
         weights: &Weights,
@@ -55,11 +56,11 @@ impl PriceBlocks {
             return Ok(None);
         }
         let parts = coarse_in_turn(alloc, pattern, matching)?;
-        let components = strong_components(alloc, pattern, matching, &parts)?;
-        let of_row = numbers_of_rows(alloc, matching, components.numbers.as_slice())?;
+        let columns = PatternColumns { pattern };
+        let components = strong_components(alloc, columns, matching, &parts)?;
         let blocks = PriceBlocks {
-            of_row,
-            of_col: components.numbers,
+            of_row: components.of_rows,
+            of_col: components.of_cols,
             count: components.count,
         };
         if blocks.highest_price(top) > HIGHEST_PRICE {
@@ -229,27 +230,6 @@ fn amounts<W: Width>(
         amounts.push(Amount::of(amount))?;
     }
     Ok(amounts)
-}
-
-// The number of the block of each row, which is that of its mate.
-fn numbers_of_rows(
-    alloc: Global,
-    matching: &Matching,
-    of_col: &[u32],
-) -> Result<Vec<u32>, OutOfMemory>
-    requires { length of_col.now ≡ matching.now.cols }
-    ensures { IfOk result (λ of_row. length of_row.items ≡ matching.now.rows) }
-{
-    matching.is_matching();
-    let mut of_row = Vec::with_capacity(alloc, matching.rows() as usize)?;
-    for row in 0..matching.rows() {
-        let number = match matching.col_of(Row(row)) {
-            Some(col) => of_col[col.0 as usize],
-            None => u32::MAX,
-        };
-        of_row.push(number)?;
-    }
-    Ok(of_row)
 }
 
 // Whether some row or some column has one entry alone.

@@ -54,6 +54,10 @@ module _ (c d : Contacts) (l k : ℕ) (x : AddsContact c l k d) (long : length c
 
 -- The rows of a column.
 
+-- what a list has at a place is on it
+pub stands_on : (list : List ℕ) (at row : ℕ) → at < length list → row ≡ get_or list at 0 → Among row list
+stands_on list at row within is = rw is (among_at list at 0 within)
+
 -- the rows before a place were met, and the last other label is in contact
 pub record AreMeeting (list : List ℕ) (at label last : ℕ) (os ns : List ℕ) (c d : Contacts) : Type 0 where
   pub met : AreMet list at label os ns c d
@@ -81,7 +85,7 @@ module _ (list : List ℕ) (at label last row : ℕ) (os ns : List ℕ) (c d : C
   m = x.met
 
   among : Among row list
-  among = rw is (among_at list at 0 within)
+  among = stands_on list at row within is
 
   of_row : (i : ℕ) → i ≡ at → row ≡ get_or list i 0
   of_row i e = is ∙ ap (λ z. get_or list z 0) (sym e)

@@ -1,35 +1,37 @@
 //! The labels of rows and columns.
 
-ghost use Rattle.std.specs.Prelude.{◌≡◌, ◌≢◌, ◌+◌, ◌<◌, ◌≤◌, ◌^◌, ◌↔◌, ℕ, length, map, replicate, slice_index, IfOk, OnOk};
+ghost use Rattle.std.specs.Prelude.{◌≡◌, ◌≢◌, ◌<◌, ℕ, length, map, replicate, slice_index, IfOk, OnOk};
 ghost use Rattle.bip_defs.specs.Lists.{Among, Lists};
 ghost use Rattle.bip_defs.specs.Matrix.{IsEntry, Matrix, cols};
 ghost use Rattle.bip_defs.specs.Parts.{IsHorizontalCol};
 ghost use Rattle.bip_graph.specs.Matching.{none};
+ghost use Rattle.column_lists.specs.Listed.{AreListed};
 ghost use Rattle.outer_components.specs.Contacts.{AreEnds, HasNoContacts};
 ghost use Rattle.outer_components.specs.Labels.{AreLabels, AreMet, AreRenamed, FitLabels, IsLabelFor, IsMet, KeepsLabels, LabelsColumn};
 ghost use Rattle.outer_components.specs.Numbers.{AreNumbers};
 
 use crate::classes::number_classes;
 use crate::contacts::{Contacts, NONE};
-use crate::lists::ColumnLists;
+use column_lists::ColumnLists;
 use sp_ids::{Col, Id, OutOfMemory};
+use sp_pattern::NumberList;
 use std::alloc::Global;
 
 /// Writes the number of its component in place of no label for each row and column of the part, and
 /// returns how many components there are.
-pub fn label_all<F: Id, N: Id, L: ColumnLists<F>>(
+pub fn label_all<N: Id, L: ColumnLists>(
     alloc: Global,
-    lists: &L,
+    lists: L,
     columns: &[N],
     row_labels: &mut [u32],
     col_labels: &mut [u32],
 ) -> Result<u32, OutOfMemory>
-    requires columns { Lists (IsHorizontalCol (L.matrix lists.now)) (map N.number columns.now) }
-    requires few { cols (L.matrix lists.now) < 2 ^ 32 }
-    requires rows { row_labels.old ≡ replicate (Matrix.rows (L.matrix lists.now)) none }
-    requires cols { col_labels.old ≡ replicate (cols (L.matrix lists.now)) none }
-    ensures { IfOk result (λ n. AreNumbers (L.matrix lists.now) n row_labels.new col_labels.new) }
+    requires columns { Lists (IsHorizontalCol (L.matrix lists)) (map N.number columns.now) }
+    requires rows { row_labels.old ≡ replicate (Matrix.rows (L.matrix lists)) none }
+    requires cols { col_labels.old ≡ replicate (cols (L.matrix lists)) none }
+    ensures { IfOk result (λ n. AreNumbers (L.matrix lists) n row_labels.new col_labels.new) }
 {
+    lists.are_listed();
     let many = (row_labels.len() / 8) + (columns.len() / 8) + 64;
     let mut contacts = Contacts::new(alloc);
     for at in 0..columns.len() {
@@ -101,19 +103,20 @@ fn rename(numbers: &[u32], labels: &mut [u32])
 }
 
 // Labels a column and those of its rows that have no label.
-fn label_column<F: Id, L: ColumnLists<F>>(
-    lists: &L,
+fn label_column<L: ColumnLists>(
+    lists: L,
     col: u32,
     row_labels: &mut [u32],
     col_labels: &mut [u32],
     contacts: &mut Contacts,
 ) -> Result<(), OutOfMemory>
-    requires col { col < cols (L.matrix lists.now) }
+    requires listed { AreListed (L.matrix lists) (L.listed lists) }
+    requires col { col < cols (L.matrix lists) }
     requires few { contacts.old.count < none }
     requires fit { FitLabels contacts.old row_labels.old col_labels.old }
-    requires long_rows { length row_labels.old ≡ Matrix.rows (L.matrix lists.now) }
-    requires long_cols { length col_labels.old ≡ cols (L.matrix lists.now) }
-    ensures { OnOk result (LabelsColumn (L.matrix lists.now) col contacts.old row_labels.old
+    requires long_rows { length row_labels.old ≡ Matrix.rows (L.matrix lists) }
+    requires long_cols { length col_labels.old ≡ cols (L.matrix lists) }
+    ensures { OnOk result (LabelsColumn (L.matrix lists) col contacts.old row_labels.old
         col_labels.old contacts.new row_labels.new col_labels.new) }
 {
     let entries = lists.rows_of(Col(col));
@@ -124,13 +127,13 @@ fn label_column<F: Id, L: ColumnLists<F>>(
 }
 
 // The label of the first of these rows that has one, else a new one.
-fn label_for<F: Id>(entries: &[F], rows: &[u32], contacts: &mut Contacts) -> u32
-    requires rows { (r : ℕ) → Among r (map F.number entries.now) → r < length rows.now }
+fn label_for<R: NumberList>(entries: R, rows: &[u32], contacts: &mut Contacts) -> u32
+    requires rows { (r : ℕ) → Among r (R.numbers entries) → r < length rows.now }
     requires few { contacts.old.count < none }
-    ensures { IsLabelFor (map F.number entries.now) rows.now result contacts.old contacts.new }
+    ensures { IsLabelFor (R.numbers entries) rows.now result contacts.old contacts.new }
 {
     for at in 0..entries.len() {
-        let label = rows[entries[at].number() as usize];
+        let label = rows[entries.at(at) as usize];
         if label != NONE {
             return label;
         }
@@ -142,21 +145,21 @@ fn label_for<F: Id>(entries: &[F], rows: &[u32], contacts: &mut Contacts) -> u32
 
 // Gives a label to those of these rows that have none, and keeps its contacts with the labels of the
 // others.
-fn meet_all<F: Id>(
-    entries: &[F],
+fn meet_all<R: NumberList>(
+    entries: R,
     label: u32,
     rows: &mut [u32],
     contacts: &mut Contacts,
 ) -> Result<(), OutOfMemory>
-    requires rows { (r : ℕ) → Among r (map F.number entries.now) → r < length rows.old }
+    requires rows { (r : ℕ) → Among r (R.numbers entries) → r < length rows.old }
     requires label { label ≢ none }
     requires long { length contacts.old.seconds.items ≡ length contacts.old.firsts.items }
-    ensures { OnOk result (AreMet (map F.number entries.now) (length entries.now) label rows.old
+    ensures { OnOk result (AreMet (R.numbers entries) (length (R.numbers entries)) label rows.old
         rows.new contacts.old contacts.new) }
 {
     let mut last = label;
     for at in 0..entries.len() {
-        last = meet(entries[at].number(), label, last, rows, contacts)?;
+        last = meet(entries.at(at) as usize, label, last, rows, contacts)?;
     }
     Ok(())
 }
@@ -165,7 +168,7 @@ fn meet_all<F: Id>(
 // itself; gives the last one then.
 #[inline(always)]
 fn meet(
-    row: u32,
+    row: usize,
     label: u32,
     last: u32,
     rows: &mut [u32],
@@ -175,12 +178,12 @@ fn meet(
     ensures { IfOk result (λ now. IsMet row label last now rows.old rows.new contacts.old
         contacts.new) }
 {
-    let known = rows[row as usize];
+    let known = rows[row];
     if known == label || known == last {
         return Ok(last);
     }
     if known == NONE {
-        rows[row as usize] = label;
+        rows[row] = label;
         return Ok(last);
     }
     contacts.add(label, known)?;

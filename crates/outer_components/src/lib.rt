@@ -4,7 +4,6 @@
 mod classes;
 mod contacts;
 mod labels;
-mod lists;
 
 ghost use Rattle.std.specs.Prelude.{map, IfOk};
 ghost use Rattle.bip_defs.specs.Lists.{Lists};
@@ -13,7 +12,7 @@ ghost use Rattle.outer_components.specs.Numbers.{AreNumbers};
 
 use crate::contacts::NONE;
 use crate::labels::label_all;
-pub use lists::ColumnLists;
+use column_lists::ColumnLists;
 use sp_ids::{Id, OutOfMemory};
 use std::alloc::Global;
 
@@ -42,13 +41,13 @@ pub struct Numbers {
 /// column more. Returns `OutOfMemory` if that cannot be allocated, or where 2^32 contacts came
 /// together. Work: two looks at each entry of a column of the part, a fixed number of looks at each
 /// row and column, and at most a fixed number for each contact.
-pub fn number_components<F: Id, N: Id, L: ColumnLists<F>>(
+pub fn number_components<N: Id, L: ColumnLists>(
     alloc: Global,
-    lists: &L,
+    lists: L,
     columns: &[N],
 ) -> Result<Numbers, OutOfMemory>
-    requires { Lists (IsHorizontalCol (L.matrix lists.now)) (map N.number columns.now) }
-    ensures { IfOk result (λ n. AreNumbers (L.matrix lists.now) n.count n.rows.items n.cols.items) }
+    requires { Lists (IsHorizontalCol (L.matrix lists)) (map N.number columns.now) }
+    ensures { IfOk result (λ n. AreNumbers (L.matrix lists) n.count n.rows.items n.cols.items) }
 {
     let mut rows = vec![in alloc; NONE; lists.rows() as usize]?;
     let mut cols = vec![in alloc; NONE; lists.cols() as usize]?;

@@ -1,7 +1,9 @@
 pub mod Changes
 pub mod EndLemmas
+pub mod Exploring
+pub mod GraphLemmas
 pub mod LastComponent
-pub mod MateLemmas
-pub mod Scans
+pub mod NumberingLemmas
+pub mod PathLemmas
+pub mod RenumberingLemmas
 pub mod SearchLemmas
-pub mod StackLemmas

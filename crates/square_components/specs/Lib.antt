@@ -1,3 +1,6 @@
+pub mod Found
+pub mod Groups
 pub mod Numbers
+pub mod Renumbering
 pub mod Stacks
 pub mod Steps

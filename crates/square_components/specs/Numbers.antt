@@ -1,9 +1,9 @@
 -- Numbers of the strong components of the square part's columns.
-use Rattle.std.specs.Prelude.{◌≡◌, ℕ, ◌<◌, ◌≤◌, List, length, slice_index_or}
+use Rattle.std.specs.Prelude.{◌≡◌, ◌≢◌, ℕ, ◌<◌, ◌≤◌, List, length, slice_index, slice_index_or}
 use Rattle.bip_defs.specs.Blocks.{IsPerfect}
 use Rattle.bip_defs.specs.Components.{AreComponents}
 use Rattle.bip_defs.specs.Lists.{Among}
-use Rattle.bip_defs.specs.Matrix.{Matrix, Place, cols}
+use Rattle.bip_defs.specs.Matrix.{IsEntry, Matrix, Place, cols}
 use Rattle.bip_defs.specs.Parts.{IsSquareCol}
 use Rattle.bip_graph.specs.Matching.{none}
 
@@ -27,3 +27,8 @@ pub record AreNumbered (a : Matrix) (pairs : List Place) (numbers : List ℕ)
   pub used : (k : ℕ) → k < count → (c : ℕ) × IsSquareCol a c × (look numbers c ≡ k)
   pub outside : (c : ℕ) → ¬ IsSquareCol a c → look numbers c ≡ none
   pub few : count ≤ cols a
+
+-- no entry of a square column leads to a row of a greater number
+abbrev pub FallAlong : Matrix → List ℕ → List ℕ → Type 0
+FallAlong a of_rows of_cols = (r c : ℕ) → IsSquareCol a c → IsEntry a r c
+    → slice_index of_rows r ≢ none → slice_index of_rows r ≤ look of_cols c

@@ -1,100 +1,127 @@
 //! Depth-first search for strong components.
 
-ghost use Rattle.std.specs.Prelude.{◌≡◌, ◌≢◌, ℕ, ◌<◌, [], slice_index, IfNone, IfSome};
+ghost use Rattle.std.specs.Prelude.{◌≡◌, ◌≢◌, ℕ, ◌<◌, ◌≤◌, [], IfOk};
 ghost use Rattle.bip_defs.specs.Lists.{Among};
-ghost use Rattle.bip_defs.specs.Matrix.{cols};
-ghost use Rattle.bip_defs.specs.Parts.{IsSquareCol};
-ghost use Rattle.bip_graph.specs.Matching.{none};
+ghost use Rattle.bip_defs.specs.Matching.{rows_of};
+ghost use Rattle.bip_defs.specs.Parts.{IsSquareCol, IsSquareRow};
+ghost use Rattle.bip_graph.specs.Decompositions.{HasParts};
+ghost use Rattle.bip_graph.specs.Matching.{IsMaximumOf, none};
+ghost use Rattle.square_components.specs.Found.{IsFound, col_in};
 ghost use Rattle.square_components.specs.Numbers.{look};
-ghost use Rattle.square_components.specs.Stacks.{IsDepthFirst, degree, work};
-ghost use Rattle.square_components.specs.Steps.{IsLast, HasTreeEdge, StaysPlaced};
+ghost use Rattle.square_components.specs.Stacks.{IsDepthFirst};
+ghost use Rattle.square_components.specs.Steps.{StaysMet};
 
 use crate::search::ComponentSearch;
-use sp_ids::Col;
-use sp_pattern::Pattern;
+use bip_graph::{Matching, Parts};
+use column_lists::ColumnLists;
+use sp_ids::{Col, OutOfMemory, Row};
+use sp_pattern::NumberList;
+use std::alloc::Global;
+
+/// What a search leaves of each row of the square part, and how many components there are.
+pub fn searched<C: ColumnLists>(
+    alloc: Global,
+    columns: C,
+    matching: &Matching,
+    parts: &Parts,
+) -> Result<(Vec<u32>, u32), OutOfMemory>
+    requires maximum { IsMaximumOf (C.matrix columns) matching.now }
+    requires parts { HasParts (C.matrix columns) parts.now }
+    ensures { IfOk result
+        (λ f. IsFound (C.matrix columns) matching.now.pairs f.0.items f.1) }
+{
+    columns.are_listed();
+    let mut search = ComponentSearch::new(alloc, columns.rows(), parts.sr.as_slice())?;
+    search.explore_all(columns, matching, parts.sc.as_slice());
+    let (state, count) = search.end();
+    are_small(state.as_slice());
+    Ok((state, count))
+}
+
+// A number of 32 bits is at most `u32::MAX`: a fact for proofs, at no cost.
+#[inline(always)]
+fn are_small(numbers: &[u32])
+    ensures { (r : ℕ) → look numbers.now r ≤ none }
+{}
 
 impl ComponentSearch {
-    /// Searches from each of these square columns that an earlier one does not lead to.
-    pub fn explore_all(&mut self, pattern: &Pattern, mates: &[u32], cols: &[Col])
-        requires search { IsDepthFirst pattern.now mates.now self.old }
-        requires empty { self.old.stack ≡ [] }
-        requires cols { (c : ℕ) → Among c cols.now → IsSquareCol pattern.now c }
-        ensures search { IsDepthFirst pattern.now mates.now self.new }
-        ensures empty { self.new.stack ≡ [] }
-        ensures placed { (c : ℕ) → Among c cols.now → look self.new.place c ≢ none }
+    // Searches from the mate of each of these square columns that an earlier one does not lead to.
+    fn explore_all<C: ColumnLists>(&mut self, columns: C, matching: &Matching, cols: &[Col])
+        requires maximum { IsMaximumOf (C.matrix columns) matching.now }
+        requires search { IsDepthFirst (C.matrix columns) (C.listed columns)
+            matching.now.pairs self.old }
+        requires empty { self.old.frames ≡ [] }
+        requires cols { (c : ℕ) → Among c cols.now → IsSquareCol (C.matrix columns) c }
+        ensures search { IsDepthFirst (C.matrix columns) (C.listed columns)
+            matching.now.pairs self.new }
+        ensures empty { self.new.frames ≡ [] }
+        ensures met { (r c : ℕ) → Among c cols.now → Among (r, c) matching.now.pairs
+            → look self.new.state r ≢ 0 }
     {
         for col in cols {
-            if !self.is_placed(col.0) {
-                self.explore(pattern, mates, *col);
+            let row = matching.mate(*col);
+            if !self.is_met(row.0) {
+                self.explore(columns, matching, row);
             }
         }
     }
 
-    // Enters a column and all columns that it leads to, and finishes their components.
-    fn explore(&mut self, pattern: &Pattern, mates: &[u32], root: Col)
-        requires search { IsDepthFirst pattern.now mates.now self.old }
-        requires empty { self.old.stack ≡ [] }
-        requires square { IsSquareCol pattern.now root }
-        requires fresh { look self.old.place root ≡ none }
-        ensures search { IsDepthFirst pattern.now mates.now self.new }
-        ensures empty { self.new.stack ≡ [] }
-        ensures root { look self.new.place root ≢ none }
-        ensures placed { StaysPlaced self.old self.new }
+    // Enters a row and all rows that it leads to, and finishes their components.
+    fn explore<C: ColumnLists>(&mut self, columns: C, matching: &Matching, root: Row)
+        requires maximum { IsMaximumOf (C.matrix columns) matching.now }
+        requires search { IsDepthFirst (C.matrix columns) (C.listed columns)
+            matching.now.pairs self.old }
+        requires empty { self.old.frames ≡ [] }
+        requires root { IsSquareRow (C.matrix columns) root × (look self.old.state root ≡ 0) }
+        ensures search { IsDepthFirst (C.matrix columns) (C.listed columns)
+            matching.now.pairs self.new }
+        ensures empty { self.new.frames ≡ [] }
+        ensures root { look self.new.state root ≢ 0 }
+        ensures met { StaysMet self.old.state self.new.state }
     {
-        self.enter(root.0, entries_of(pattern, root));
-        while let Some(at) = self.top() {
-            self.advance(pattern, mates, at);
-        }
-    }
-
-    // Goes on from the column at the last place to do to a column that was not entered, or leaves
-    // it.
-    fn advance(&mut self, pattern: &Pattern, mates: &[u32], at: u32)
-        requires search { IsDepthFirst pattern.now mates.now self.old }
-        requires at { IsLast self.old.todo at }
-        ensures search { IsDepthFirst pattern.now mates.now self.new }
-        ensures placed { StaysPlaced self.old self.new }
-        ensures less { work self.new < work self.old }
-    {
-        match self.scan(pattern, mates, at) {
-            Some(next) => self.enter(next.0, entries_of(pattern, next)),
-            None => self.leave(at),
-        }
-    }
-
-    // Looks at the entries that are left of the column at the last place to do, up to one that
-    // leads to a column that was not entered.
-    fn scan(&mut self, pattern: &Pattern, mates: &[u32], at: u32) -> Option<Col>
-        requires search { IsDepthFirst pattern.now mates.now self.old }
-        requires at { IsLast self.old.todo at }
-        ensures search { IsDepthFirst pattern.now mates.now self.new }
-        ensures path { self.new
-            ≡ record self.old { left = self.new.left; starts = self.new.starts } }
-        ensures found { IfSome result (λ d. HasTreeEdge pattern.now mates.now self.new at d) }
-        ensures none { IfNone result
-            (slice_index self.new.left (slice_index self.new.stack at) ≡ 0) }
-    {
-        let col = self.col_at(at);
-        let rows = pattern.rows_of(Col(col));
-        let mut left = self.left(col);
-        while left > 0 {
-            let row = rows[left as usize - 1];
-            let next = mates[row.0 as usize];
-            if !self.settle(next) {
-                return Some(Col(next));
+        let mut place = self.enter(root.0);
+        let mut list = list_of(columns, matching, root);
+        let mut at = 0;
+        'search: loop {
+            at = self.scan(list, at);
+            if at < list.len() {
+                let next = list.at(at) as u32;
+                self.wait(place, at as u32 + 1);
+                place = self.enter(next);
+                list = list_of(columns, matching, Row(next));
+                at = 0;
+            } else {
+                self.leave(place);
+                let Some((back, gone)) = self.back() else {
+                    return;
+                };
+                place = back;
+                list = list_of(columns, matching, Row(self.row_at(place)));
+                at = gone as usize;
             }
-            left -= 1;
-            self.set_left(col, left);
         }
-        None
     }
 }
 
-// How many entries a column has.
-fn entries_of(pattern: &Pattern, col: Col) -> u32
-    requires { col < cols pattern.now }
-    ensures { result ≡ degree pattern.now col }
+// The rows to which a row of the square part leads: those of its mate.
+#[inline(always)]
+fn list_of<C: ColumnLists>(columns: C, matching: &Matching, row: Row) -> C::Rows
+    requires maximum { IsMaximumOf (C.matrix columns) matching.now }
+    requires square { IsSquareRow (C.matrix columns) row }
+    ensures { C.Rows.numbers result ≡ C.listed columns (col_in matching.now.pairs row) }
 {
-    pattern.is_pattern();
-    pattern.rows_of(col).len() as u32
+    columns.rows_of(mate_of(matching, row))
+}
+
+// The mate of a matched row.
+#[inline(always)]
+fn mate_of(matching: &Matching, row: Row) -> Col
+    requires row { row < matching.now.rows }
+    requires matched { Among row (rows_of matching.now.pairs) }
+    ensures { Among (row, result) matching.now.pairs }
+{
+    match matching.col_of(row) {
+        Some(col) => col,
+        None => Col(0),
+    }
 }

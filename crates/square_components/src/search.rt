@@ -1,30 +1,35 @@
 //! What a depth-first search for strong components keeps, and the changes of it.
 
-ghost use Rattle.std.specs.Prelude.{◌≡◌, ◌≢◌, ℕ, ◌<◌, ◌≤◌, ◌++◌, List, [], ◌∷◌, length, slice_index, vec_capacity, IfNone, IfOk, IfSome, MatchBool};
-ghost use Rattle.bip_defs.specs.Lists.{IsRising};
+ghost use Rattle.std.specs.Prelude.{◌≡◌, ◌≢◌, ℕ, ◌+◌, ◌<◌, ◌≤◌, ◌++◌, List, [], ◌∷◌, length, slice_index, vec_capacity, IfNone, IfOk, IfSome, MatchBool};
+ghost use Rattle.bip_defs.specs.Lists.{Among, IsRising};
 ghost use Rattle.bip_graph.specs.Matching.{none};
 ghost use Rattle.square_components.specs.Numbers.{look};
 ghost use Rattle.square_components.specs.Stacks.{PathState};
-ghost use Rattle.square_components.specs.Steps.{AreUpTo, IsLast, HasRoom, Leaves, AssignsNumber, Settles, advancing, beginning, entering, finishing, merging};
+ghost use Rattle.square_components.specs.Steps.{AreBelow, AreUnmet, Assigns, GoesBack, HasRoom, IsBeginning, IsLast, Leaves, Passes, StopsAt, entering, finishing, merging, with_top};
 
-use sp_ids::OutOfMemory;
+use sp_ids::{OutOfMemory, Row};
+use sp_pattern::NumberList;
 use std::alloc::Global;
 use std::marker::Model;
 
-/// Stands for no place, no number and no mate.
+/// Stands for no number.
 pub const NONE: u32 = u32::MAX;
 
-/// The state of the search. The columns of the path are kept in the order in which they were
-/// entered, cut into the components that are known so far.
+/// The state of the search. The rows of the path are kept in the order in which they were entered,
+/// cut into the components that are known so far.
+///
+/// Of each row it keeps one number: 0 before it is met, p + 1 at the place p of the path,
+/// `u32::MAX` - k in the component k once that is finished, and `u32::MAX` outside the square part.
+/// The rows of the path and the finished components are together at most 2^32 - 1, so a place is
+/// below the number of each finished component.
 #[derive(Drop)]
 pub struct ComponentSearch {
     stack: Vec<u32>,
     starts: Vec<u32>,
-    todo: Vec<u32>,
-    left: Vec<u32>,
-    place: Vec<u32>,
-    number: Vec<u32>,
+    frames: Vec<(u32, u32)>,
+    state: Vec<u32>,
     count: u32,
+    room: usize,
 }
 
 impl Model for ComponentSearch {
@@ -36,194 +41,210 @@ impl Model for ComponentSearch {
     ghost view = { λ s. record {
       stack = s.stack.items;
       starts = s.starts.items;
-      todo = s.todo.items;
-      left = s.left.items;
-      place = s.place.items;
-      number = s.number.items;
+      frames = s.frames.items;
+      state = s.state.items;
       count = s.count;
+      room = s.room;
     } };
 
-    ghost invariant = { λ s. (length s.place.items ≤ vec_capacity s.stack)
-        × (length s.place.items ≤ vec_capacity s.starts)
-        × (length s.place.items ≤ vec_capacity s.todo) };
+    ghost invariant = { λ s. (s.room ≤ vec_capacity s.stack)
+        × (s.room ≤ vec_capacity s.starts)
+        × (s.room ≤ vec_capacity s.frames) };
 }
 
 impl ComponentSearch {
-    /// The search of so many columns, of which none was entered.
-    pub fn new(alloc: Global, cols: u32) -> Result<ComponentSearch, OutOfMemory>
-        ensures { IfOk result (λ s. s ≡ beginning cols) }
+    /// The search of these rows, of which none was met.
+    pub fn new(alloc: Global, rows: u32, square: &[Row]) -> Result<ComponentSearch, OutOfMemory>
+        requires within { (r : ℕ) → Among r square.now → r < rows }
+        requires rising { IsRising square.now }
+        ensures { IfOk result (λ s. IsBeginning rows square.now s) }
     {
-        let room = cols as usize;
+        let room = square.len();
+        let state = unmet(alloc, rows, square)?;
         let stack = Vec::with_capacity(alloc, room)?;
         let starts = Vec::with_capacity(alloc, room)?;
-        let todo = Vec::with_capacity(alloc, room)?;
-        let left = vec![in alloc; 0u32; room]?;
-        let place = vec![in alloc; NONE; room]?;
-        let number = vec![in alloc; NONE; room]?;
+        let frames = Vec::with_capacity(alloc, room)?;
         Ok(ComponentSearch {
             stack,
             starts,
-            todo,
-            left,
-            place,
-            number,
+            frames,
+            state,
             count: 0,
+            room,
         })
     }
 
-    /// The last place that is not left yet.
-    pub fn top(&self) -> Option<u32>
-        ensures some { IfSome result (λ at. IsLast self.now.todo at) }
-        ensures none { IfNone result (self.now.todo ≡ []) }
+    /// Whether a row was met.
+    pub fn is_met(&self, row: u32) -> bool
+        requires { row < length self.now.state }
+        ensures { MatchBool result (look self.now.state row ≢ 0) (look self.now.state row ≡ 0) }
     {
-        last(self.todo.as_slice())
+        self.state[row as usize] != 0
     }
 
-    /// The column at a place of the path.
-    pub fn col_at(&self, at: u32) -> u32
-        requires { at < length self.now.stack }
-        ensures { result ≡ slice_index self.now.stack at }
+    /// The row at a place of the path.
+    #[inline(always)]
+    pub fn row_at(&self, place: u32) -> u32
+        requires { place < length self.now.stack }
+        ensures { result ≡ slice_index self.now.stack place }
     {
-        self.stack[at as usize]
+        self.stack[place as usize]
     }
 
-    /// How many entries of a column are left.
-    pub fn left(&self, col: u32) -> u32
-        requires { col < length self.now.left }
-        ensures { result ≡ slice_index self.now.left col }
-    {
-        self.left[col as usize]
-    }
-
-    /// Whether a column was entered.
-    pub fn is_placed(&self, col: u32) -> bool
-        requires { col < length self.now.place }
-        ensures { MatchBool result (look self.now.place col ≢ none)
-            (look self.now.place col ≡ none) }
-    {
-        self.place[col as usize] != NONE
-    }
-
-    /// Enters a column with so many entries as a component of its own.
-    pub fn enter(&mut self, col: u32, entries: u32)
-        requires col { col < length self.old.place }
+    /// Enters a row as a component of its own, and returns its place.
+    #[inline(always)]
+    pub fn enter(&mut self, row: u32) -> u32
+        requires row { row < length self.old.state }
         requires room { HasRoom self.old }
-        ensures { self.new ≡ entering self.old col entries }
+        ensures place { result ≡ length self.old.stack }
+        ensures state { self.new ≡ entering self.old row }
     {
-        let at = self.stack.len() as u32;
-        self.stack.push_reserved(col);
-        self.starts.push_reserved(at);
-        self.todo.push_reserved(at);
-        self.left[col as usize] = entries;
-        self.place[col as usize] = at;
+        let place = self.stack.len() as u32;
+        self.stack.push_reserved(row);
+        self.starts.push_reserved(place);
+        self.state[row as usize] = place + 1;
+        place
     }
 
-    /// Notes how many entries of a column are left.
-    pub fn set_left(&mut self, col: u32, left: u32)
-        requires { col < length self.old.left }
-        ensures { self.new ≡ advancing self.old col left }
+    /// Notes how many entries of the row at a place were gone over, to come back to it.
+    #[inline(always)]
+    pub fn wait(&mut self, place: u32, gone: u32)
+        requires { length self.old.frames < self.old.room }
+        ensures { self.new ≡ with_top self.old place gone }
     {
-        self.left[col as usize] = left;
+        self.frames.push_reserved((place, gone));
     }
 
-    /// Follows an entry to a column that it leads to, or to none: the components after that column
-    /// are joined to its own where it is on the path. Whether it was entered before.
-    pub fn settle(&mut self, next: u32) -> bool
-        requires place { next ≢ none → next < length self.old.place }
-        requires number { next ≢ none → next < length self.old.number }
+    /// The last place that was noted, and how many of its entries were gone over. It is noted no
+    /// more.
+    #[inline(always)]
+    pub fn back(&mut self) -> Option<(u32, u32)>
+        ensures some { IfSome result (λ f. GoesBack self.old f self.new) }
+        ensures none { IfNone result ((self.old.frames ≡ []) × (self.new ≡ self.old)) }
+    {
+        self.frames.pop()
+    }
+
+    /// Goes over entries from a place of their list on, up to one that leads to a row that was not
+    /// met, and returns where that one stands. The components after a row to which an entry leads
+    /// are joined to that of the row.
+    #[inline(always)]
+    pub fn scan<N: NumberList>(&mut self, list: N, from: usize) -> usize
         requires starts { IsRising self.old.starts }
-        ensures { MatchBool result (Settles self.old next self.new)
-            ((self.new ≡ self.old) × (next ≢ none) × (look self.old.place next ≡ none)) }
-    {
-        if next == NONE || self.number[next as usize] != NONE {
-            return true;
-        }
-        let at = self.place[next as usize];
-        if at == NONE {
-            return false;
-        }
-        self.join(at);
-        true
-    }
-
-    // Joins the components after a place to the one of that place.
-    fn join(&mut self, at: u32)
-        requires { IsRising self.old.starts }
-        ensures starts { AreUpTo at self.old.starts self.new.starts }
+        requires first { Among 0 self.old.starts }
+        requires rows { (r : ℕ) → Among r (N.numbers list) → r < length self.old.state }
+        requires from { from ≤ length (N.numbers list) }
         ensures same { self.new ≡ merging self.old self.new.starts }
+        ensures passes { Passes self.old.state (N.numbers list) from self.old.starts
+            result self.new.starts }
+        ensures stops { StopsAt self.old.state (N.numbers list) result }
     {
-        drop_above(&mut self.starts, at);
+        pass(self.state.as_slice(), &mut self.starts, list, from)
     }
 
-    /// Leaves the column at the last place to do, and finishes its component if it starts there.
-    pub fn leave(&mut self, at: u32)
-        requires at { IsLast self.old.todo at }
+    /// Leaves the row at the last place, and finishes its component if it starts there.
+    #[inline(always)]
+    pub fn leave(&mut self, place: u32)
         requires starts { self.old.starts ≢ [] }
-        requires on { at < length self.old.stack }
+        requires on { place < length self.old.stack }
         requires count { self.old.count < none }
-        requires cols { (i : ℕ) → i < length self.old.stack
-            → slice_index self.old.stack i < length self.old.number }
-        ensures { Leaves self.old at self.new }
+        requires rows { (i : ℕ) → i < length self.old.stack
+            → slice_index self.old.stack i < length self.old.state }
+        ensures { Leaves self.old place self.new }
     {
-        cut(&mut self.todo);
-        if self.last_start() == at {
-            self.finish(at);
+        if last_of(self.starts.as_slice()) == place {
+            self.finish(place);
         }
     }
 
-    // Where the last component starts.
-    fn last_start(&self) -> u32
-        requires { self.now.starts ≢ [] }
-        ensures { IsLast self.now.starts result }
-    {
-        self.starts[self.starts.len() - 1]
-    }
-
-    // Numbers the columns of the last component, which starts at `start`, and takes them off the
+    // Numbers the rows of the last component, which starts at `start`, and takes them off the
     // path.
     fn finish(&mut self, start: u32)
         requires start { IsLast self.old.starts start }
         requires on { start < length self.old.stack }
         requires count { self.old.count < none }
-        requires cols { (i : ℕ) → i < length self.old.stack
-            → slice_index self.old.stack i < length self.old.number }
-        ensures numbers { AssignsNumber self.old.stack start
-            (length self.old.stack) self.old.count self.old.number self.new.number }
+        requires rows { (i : ℕ) → i < length self.old.stack
+            → slice_index self.old.stack i < length self.old.state }
+        ensures numbers { (v : ℕ) → v + self.old.count ≡ none → Assigns self.old.stack start
+            (length self.old.stack) v self.old.state self.new.state }
         ensures starts { self.old.starts ≡ self.new.starts ++ start ∷ [] }
-        ensures same { self.new ≡ finishing self.old start self.new.starts self.new.number }
+        ensures same { self.new ≡ finishing self.old start self.new.starts self.new.state }
     {
+        let from = start as usize;
+        let number = NONE - self.count;
         number_from(
             self.stack.as_slice(),
-            start as usize,
-            self.number.as_mut_slice(),
-            self.count,
+            from,
+            self.state.as_mut_slice(),
+            number,
         );
-        self.stack.truncate(start as usize);
+        self.stack.truncate(from);
         cut(&mut self.starts);
         self.count += 1;
     }
 
-    /// The numbers, and how many there are.
+    /// The numbers that the rows have, and how many components are finished.
     pub fn end(self) -> (Vec<u32>, u32)
-        ensures numbers { result.0.items ≡ self.number }
+        ensures state { result.0.items ≡ self.state }
         ensures count { result.1 ≡ self.count }
     {
-        (self.number, self.count)
+        (self.state, self.count)
     }
+}
+
+// For each row 0 where it is one of these, and else no number.
+fn unmet(alloc: Global, rows: u32, square: &[Row]) -> Result<Vec<u32>, OutOfMemory>
+    requires within { (r : ℕ) → Among r square.now → r < rows }
+    requires rising { IsRising square.now }
+    ensures { IfOk result (λ v. AreUnmet rows square.now v.items) }
+{
+    if square.len() == rows as usize {
+        return Ok(vec![in alloc; 0u32; rows as usize]?);
+    }
+    let mut state = vec![in alloc; NONE; rows as usize]?;
+    for row in square {
+        state[row.0 as usize] = 0;
+    }
+    Ok(state)
+}
+
+// Goes over the entries from one on, up to one in a row that was not met, and takes off the starts
+// above each row that it meets.
+#[inline(always)]
+fn pass<N: NumberList>(state: &[u32], starts: &mut Vec<u32>, list: N, from: usize) -> usize
+    requires starts { IsRising starts.old.items }
+    requires first { Among 0 starts.old.items }
+    requires rows { (r : ℕ) → Among r (N.numbers list) → r < length state.now }
+    requires from { from ≤ length (N.numbers list) }
+    ensures passes { Passes state.now (N.numbers list) from starts.old.items
+        result starts.new.items }
+    ensures stops { StopsAt state.now (N.numbers list) result }
+    ensures capacity { vec_capacity starts.old ≤ vec_capacity starts.new }
+{
+    let mut last = last_of(starts.as_slice());
+    for at in from..list.len() {
+        let met = state[list.at(at) as usize];
+        if met == 0 {
+            return at;
+        }
+        if met <= last {
+            last = drop_from(starts, met);
+        }
+    }
+    list.len()
 }
 
 // The last of a list.
-fn last(list: &[u32]) -> Option<u32>
-    ensures some { IfSome result (λ x. IsLast list.now x) }
-    ensures none { IfNone result (list.now ≡ []) }
+#[inline(always)]
+fn last_of(list: &[u32]) -> u32
+    requires { list.now ≢ [] }
+    ensures { IsLast list.now result }
 {
-    match list.last() {
-        Some(last) => Some(*last),
-        None => None,
-    }
+    list[list.len() - 1]
 }
 
 // Takes the last off a list.
+#[inline(always)]
 fn cut(list: &mut Vec<u32>)
     ensures items { (prefix : List ℕ) (x : ℕ) → list.old.items ≡ prefix ++ x ∷ []
         → list.new.items ≡ prefix }
@@ -232,27 +253,30 @@ fn cut(list: &mut Vec<u32>)
     list.pop();
 }
 
-// Takes the places above this one off a rising list.
-fn drop_above(starts: &mut Vec<u32>, at: u32)
-    requires { IsRising starts.old.items }
-    ensures starts { AreUpTo at starts.old.items starts.new.items }
+// Takes the places from `met` on off a rising list, which has 0, and returns the last that is left.
+fn drop_from(starts: &mut Vec<u32>, met: u32) -> u32
+    requires rising { IsRising starts.old.items }
+    requires first { Among 0 starts.old.items }
+    requires met { 0 < met }
+    ensures starts { AreBelow met starts.old.items starts.new.items }
+    ensures last { IsLast starts.new.items result }
     ensures capacity { vec_capacity starts.old ≤ vec_capacity starts.new }
 {
-    while let Some(start) = last(starts.as_slice()) {
-        if start <= at {
-            return;
-        }
+    let mut last = last_of(starts.as_slice());
+    while last >= met {
         cut(starts);
+        last = last_of(starts.as_slice());
     }
+    last
 }
 
-// Gives a number to the columns at the places from one on.
-fn number_from(stack: &[u32], start: usize, number: &mut [u32], count: u32)
+// Gives a number to the rows at the places from one on.
+fn number_from(stack: &[u32], start: usize, state: &mut [u32], number: u32)
     requires start { start ≤ length stack.now }
-    requires cols { (i : ℕ) → i < length stack.now → slice_index stack.now i < length number.old }
-    ensures { AssignsNumber stack.now start (length stack.now) count number.old number.new }
+    requires rows { (i : ℕ) → i < length stack.now → slice_index stack.now i < length state.old }
+    ensures { Assigns stack.now start (length stack.now) number state.old state.new }
 {
     for at in start..stack.len() {
-        number[stack[at] as usize] = count;
+        state[stack[at] as usize] = number;
     }
 }

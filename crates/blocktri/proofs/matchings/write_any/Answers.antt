@@ -1,9 +1,9 @@
-use Rattle.std.proofs.Common.{◌≡◌, ◌∙◌, ◌-◌, ℕ, Bool, true, false, IfNone, Option, None, Some, length, ap, refl, subst, sym}
+use Rattle.std.proofs.Common.{◌≡◌, ◌∙◌, ◌-◌, ℕ, Bool, true, false, length, ap, subst, sym}
 use Rattle.blocktri.specs.Answers.{TellsMatching}
 use Rattle.blocktri.specs.Compressed.{CompressedLists, IsRoom, listed, pick, transpose_if}
 use Rattle.blocktri.specs.Diagonal.{IsDiagonalFull}
 use Rattle.blocktri.proofs.CompressedLemmas.{listed_cols}
-use Rattle.blocktri.proofs.MatchedLemmas.{mates_room, tells_any, tells_turned}
+use Rattle.blocktri.proofs.MatchedLemmas.{mates_room, tells_any, tells_turned, where_none}
 use Rattle.blocktri.proofs.matchings.write_any.Goals as goal
 use Rattle.blocktri.proofs.matchings.write_any.Goals.{then-matrix, else-matrix}
 
@@ -26,11 +26,6 @@ write_wanted_rows-requires-else-matrix-clause-room g c =
     let turned = ap (λ (v : CompressedLists). v.by_rows) c.matrix.view_is in
     let by_rows : l.by_rows ≡ false = sym turned ∙ c.if-matrix.false in
     subst (λ (n : ℕ). IsRoom n c.args.row_of_column.now) (ap (λ (b : Bool). pick b l.others (length l.starts - 1)) by_rows ∙ sym (listed_cols l) ∙ sym c.in_ok-matching-2.ensures.matching.cols) c.requires.room.rows_are
-
--- what holds where there is none
-where_none : {X : Type 0} (P : Type 0) (o : Option X) → ((x : X) → o ≡ Some x → ⊥) → IfNone o P → P
-where_none P None none holds = holds
-where_none P (Some x) none holds = absurd (none x refl)
 
 pub returns-clause-found : goal.returns-clause-found
 returns-clause-found g c =

@@ -1,5 +1,5 @@
 use Rattle.std.proofs.Common.{◌∙◌, arith, sym}
-use Rattle.bip_graph.specs.Decompositions.{decomposition_of}
+use Rattle.blocktri.specs.BlockForms.{decomposition_of}
 use Rattle.blocktri.proofs.WriteLemmas.{cols_long, few_blocks, rows_long}
 use Rattle.blocktri.proofs.orders.lengths_add_up.Goals as goal
 

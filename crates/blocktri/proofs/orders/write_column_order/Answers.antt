@@ -2,7 +2,7 @@ use Rattle.std.proofs.Common.{◌≡◌, ◌∙◌, ◌<◌, ℕ, List, arith, s
 use Rattle.bip_defs.specs.Blocks.{all_cols}
 use Rattle.bip_defs.specs.Once.{ListsOnce}
 use Rattle.bip_graph.specs.Answers.{orders_of}
-use Rattle.bip_graph.specs.Decompositions.{decomposition_of}
+use Rattle.blocktri.specs.BlockForms.{decomposition_of}
 use Rattle.blocktri.proofs.DiagonalOrderLemmas.{three_same}
 use Rattle.blocktri.proofs.orders.write_column_order.Goals as goal
 

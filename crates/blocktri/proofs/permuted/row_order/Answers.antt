@@ -2,7 +2,7 @@ use Rattle.std.proofs.Common.{◌<◌, ℕ, List, arith, refl, subst, sym}
 use Rattle.bip_defs.specs.Lists.{Among}
 use Rattle.bip_defs.specs.Matching.{cols_of, rows_of}
 use Rattle.bip_defs.proofs.Slices.{read_at}
-use Rattle.bip_graph.specs.Decompositions.{decomposition_of}
+use Rattle.blocktri.specs.BlockForms.{decomposition_of}
 use Rattle.blocktri.proofs.PermutedLemmas.{columns_behind, grows_from, has_mate, mate_pushed, row_order_told}
 use Rattle.blocktri.proofs.permuted.row_order.Goals as goal
 
@@ -31,7 +31,7 @@ loop-k-preserved c = mate_pushed c.args.matching.now.pairs c.args.columns.now c.
 pub push_unmatched_rows-requires-clause-within : goal.push_unmatched_rows-requires-clause-within
 push_unmatched_rows-requires-clause-within c =
     let (a, form, order) = c.requires in
-    λ r h. subst (λ (n : ℕ). r < n) (sym form.maximum.matching.rows) (form.decomposes.decomposition.parts.vertical_rows.sound r (subst (λ (ys : List ℕ). Among r ys) c.as_slice.ensures.value h)).0
+    λ r h. subst (λ (n : ℕ). r < n) (sym form.maximum.matching.rows) (form.form.decomposition.parts.vertical_rows.sound r (subst (λ (ys : List ℕ). Among r ys) c.as_slice.ensures.value h)).0
 
 pub returns : goal.returns
 returns c = λ a form order.
@@ -44,4 +44,4 @@ returns c = λ a form order.
     let size = c.size.ensures.size in
     let end = c.loop-k-test.false in
     let grown = grows_from (λ r. ¬ Among r (rows_of m)) d.parts.vertical_rows c.as_slice.result.now c.loop-k.rows.items c.loop-k.rows.items c.push_unmatched_rows.new.rows.items c.as_slice.ensures.value refl c.in_ok-push_unmatched_rows.ensures in
-    row_order_told a d m q c.loop-k.rows.items c.push_unmatched_rows.new.rows.items c.loop-k.k form.decomposes.decomposition form.maximum.maximum behind end (c.loop-k.auto.k-end (omega (arith, few, wide, size))) c.loop-k.invariant grown
+    row_order_told a d m q c.loop-k.rows.items c.push_unmatched_rows.new.rows.items c.loop-k.k form.form.decomposition form.maximum.maximum behind end (c.loop-k.auto.k-end (omega (arith, few, wide, size))) c.loop-k.invariant grown

@@ -9,10 +9,13 @@ use Rattle.outer_components.proofs.MergeLemmas.{labels_end, labels_fit, labels_s
 use Rattle.outer_components.proofs.labels.label_all.Goals as goal
 
 pub loop-at-init : goal.loop-at-init
-loop-at-init g c = labels_start (g.L.ColumnLists.matrix c.args.lists.now) (map g.N.Id.number c.args.columns.now) c.new-contacts.result c.args.row_labels.now c.args.col_labels.now c.requires.columns c.new-contacts.ensures.count c.new-contacts.ensures.empty c.requires.rows c.requires.cols
+loop-at-init g c = labels_start (g.L.ColumnLists.matrix c.args.lists) (map g.N.Id.number c.args.columns.now) c.new-contacts.result c.args.row_labels.now c.args.col_labels.now c.requires.columns c.new-contacts.ensures.count c.new-contacts.ensures.empty c.requires.rows c.requires.cols
 
 pub merge_if_many-requires : goal.merge_if_many-requires
 merge_if_many-requires g c = labels_fit _ _ _ _ _ _ c.loop-at.invariant
+
+pub label_column-requires-clause-listed : goal.label_column-requires-clause-listed
+label_column-requires-clause-listed g c = c.are_listed.ensures
 
 pub label_column-requires-clause-col : goal.label_column-requires-clause-col
 label_column-requires-clause-col g c = (c.requires.columns.sound _ (number_read g.N.Id.number _ c.args.columns.now _ _ c.loop-at-test.true c.index-columns-at.is c.number.ensures)).0
@@ -21,8 +24,8 @@ pub label_column-requires-clause-few : goal.label_column-requires-clause-few
 label_column-requires-clause-few g c =
     let x = c.in_ok-merge_if_many.ensures _ _ _ c.loop-at.invariant in
     let le = x.few in
-    let all = few_below (cols (g.L.ColumnLists.matrix c.args.lists.now)) (map g.N.Id.number c.args.columns.now) (rising_distinct _ c.requires.columns.rising) (λ k on. (c.requires.columns.sound k on).0) in
-    let few = c.requires.few in
+    let all = few_below (cols (g.L.ColumnLists.matrix c.args.lists)) (map g.N.Id.number c.args.columns.now) (rising_distinct _ c.requires.columns.rising) (λ k on. (c.requires.columns.sound k on).0) in
+    let few = c.are_listed.ensures.few_cols in
     omega (arith, le, all, few, length-map c.args.columns.now g.N.Id.number, c.loop-at-test.true)
 
 pub label_column-requires-clause-fit : goal.label_column-requires-clause-fit
@@ -38,8 +41,8 @@ pub loop-at-preserved : goal.loop-at-preserved
 loop-at-preserved g c =
     let x = c.in_ok-merge_if_many.ensures _ _ _ c.loop-at.invariant in
     let le = x.few in
-    let all = few_below (cols (g.L.ColumnLists.matrix c.args.lists.now)) (map g.N.Id.number c.args.columns.now) (rising_distinct _ c.requires.columns.rising) (λ k on. (c.requires.columns.sound k on).0) in
-    let few = c.requires.few in
+    let all = few_below (cols (g.L.ColumnLists.matrix c.args.lists)) (map g.N.Id.number c.args.columns.now) (rising_distinct _ c.requires.columns.rising) (λ k on. (c.requires.columns.sound k on).0) in
+    let few = c.are_listed.ensures.few_cols in
     let is = number_at g.N.Id.number _ c.args.columns.now _ _ 0 c.loop-at-test.true c.index-columns-at.is c.number.ensures in
     labelled _ _ _ _ _ _ _ _ _ _ x (omega (arith, length-map c.args.columns.now g.N.Id.number, c.loop-at-test.true)) is (omega (arith, le, all, few, length-map c.args.columns.now g.N.Id.number, c.loop-at-test.true)) c.in_ok-label_column.ensures
 

@@ -1,9 +1,14 @@
-use Rattle.std.proofs.Common.{inl, refl}
-use Rattle.bip_defs.proofs.Slices.{number_read}
+use Rattle.std.proofs.Common.{◌<◌, inl, length, refl, rules}
+use Rattle.outer_components.proofs.LabelLemmas.{stands_on}
 use Rattle.outer_components.proofs.labels.label_for.Goals as goal
 
-pub bounds-rows-number : goal.bounds-rows-number
-bounds-rows-number g c = c.requires.rows c.number.result (number_read g.F.Id.number _ c.args.entries.now _ _ c.loop-at-test.true c.index-entries-at.is c.number.ensures)
+pub offset_bounds-rows-at : goal.offset_bounds-rows-at
+offset_bounds-rows-at g c =
+    let lt : c.at.result < length c.args.rows.now = c.requires.rows _ (stands_on _ _ _ (rw c.len-at-end.ensures at c.loop-at-test.true) c.at.ensures) in
+    search rules
+
+pub bounds-rows-at : goal.bounds-rows-at
+bounds-rows-at g c = c.requires.rows _ (stands_on _ _ _ (rw c.len-at-end.ensures at c.loop-at-test.true) c.at.ensures)
 
 pub returns-then-label : goal.returns-then-label
-returns-then-label g c = inl (refl, c.if-label.true, c.number.result, number_read g.F.Id.number _ c.args.entries.now _ _ c.loop-at-test.true c.index-entries-at.is c.number.ensures, refl)
+returns-then-label g c = inl (refl, c.if-label.true, c.at.result, stands_on _ _ _ (rw c.len-at-end.ensures at c.loop-at-test.true) c.at.ensures, refl)

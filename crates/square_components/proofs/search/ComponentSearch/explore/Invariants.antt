@@ -1,16 +1,22 @@
-use Rattle.std.proofs.Common.{◌≢◌}
-use Rattle.bip_graph.specs.Matching.{none}
+use Rattle.std.proofs.Common.{◌≡◌, ◌≢◌, ◌≤◌, get_or, length}
+use Rattle.square_components.specs.Found.{col_in}
 use Rattle.square_components.specs.Numbers.{look}
 use Rattle.square_components.specs.Stacks.{IsDepthFirst, work}
-use Rattle.square_components.specs.Steps.{StaysPlaced}
+use Rattle.square_components.specs.Steps.{StaysMet, with_top}
+use Rattle.square_components.proofs.Exploring.{Waits}
 use Rattle.square_components.proofs.search.ComponentSearch.explore.Given as goal
 
-abbrev pub invariant-loop-at : goal.invariant-loop-at
-invariant-loop-at l = record {
-  search : IsDepthFirst l.pattern l.mates l.self;
-  root : look l.self.place l.fn.root ≢ none;
-  placed : StaysPlaced l.fn.self l.self;
-}
+abbrev pub invariant-search : goal.invariant-search
+invariant-search g l =
+    let c = g.C.ColumnLists in
+    record {
+      search : IsDepthFirst (c.matrix l.columns) (c.listed l.columns) l.matching.pairs (with_top l.self l.place l.at);
+      list : g.C.Rows.NumberList.numbers l.list ≡ c.listed l.columns (col_in l.matching.pairs (get_or l.self.stack l.place 0));
+      within : l.at ≤ length (g.C.Rows.NumberList.numbers l.list);
+      root : look l.self.state l.fn.root ≢ 0;
+      met : StaysMet l.fn.self.state l.self.state;
+      waits : Waits (c.listed l.columns) l.matching.pairs l.self;
+    }
 
-abbrev pub decreases-loop-at : goal.decreases-loop-at
-decreases-loop-at l = work l.self
+abbrev pub decreases-search : goal.decreases-search
+decreases-search g l = work l.self

@@ -1,0 +1,2 @@
+pub mod GivenLists
+pub mod PatternLists
