@@ -1,4 +1,4 @@
-// The calls of libblocktri beside those of CXSparse and SuiteSparse BTF on a matrix of another's, in one process, on the same
+// Times the calls of libblocktri, CXSparse and SuiteSparse BTF on one real matrix, in one process and on the same
 // compressed columns:
 //
 //   real look < file.mtx                what the matrix is: rows, columns, entries, a number for its pattern, and whether the
@@ -9,10 +9,10 @@
 // entry. The first look finds all if the matrix is square and has its whole diagonal, or each column finds a row that no column
 // before it took.
 //
-// Each call runs first in a child of its own: one that does not end within LIMIT seconds is left out. Then all run in turns, TIMES
-// times on large matrices and up to twenty times as often on small ones, but those that have taken half of LIMIT no more. For each
-// call a line has its name, the least nanoseconds by the clock, and the numbers that it found. The lists that a call writes and
-// works in are made and freed inside of its time, by malloc, as those are that the packages make themselves.
+// Each call first runs in a child process and is left out if it does not end within LIMIT seconds. Then the calls take turns: TIMES
+// times on large matrices, up to twenty times as often on small ones, and no more once a call has taken half of LIMIT. The program
+// prints one line for each call: its name, its least time in nanoseconds by the wall clock, and the numbers that it found. The time
+// includes malloc and free of the lists that the call writes and works in.
 #include <algorithm>
 #include <cctype>
 #include <csignal>
