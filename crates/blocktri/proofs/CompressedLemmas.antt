@@ -1,5 +1,5 @@
 -- What the matrix that is given has: its rows, its columns, and its entries.
-use Rattle.std.proofs.Common.{◌≡◌, ◌↔◌, ℕ, ◌-◌, ◌^◌, ◌<◌, Bool, true, false, length, refl, arith}
+use Rattle.std.proofs.Common.{◌≡◌, ◌↔◌, ℕ, ◌-◌, ◌^◌, ◌<◌, Bool, true, false, length, ap, refl, arith}
 use Rattle.bip_defs.specs.Matrix.{IsEntry, IsTransposeOf, Matrix, cols, transpose}
 use Rattle.bip_defs.proofs.Sets.{upto_mapped}
 use Rattle.bip_defs.proofs.Transposed.{transpose_back, transpose_cols, transpose_is}
@@ -28,6 +28,10 @@ given_rows l = turned_row_count l.by_rows (listed l) (length l.starts - 1) (list
 -- its columns
 pub given_cols : (l : CompressedLists) → cols (matrix_given l) ≡ column_count l
 given_cols l = turned_column_count l.by_rows (listed l) (length l.starts - 1) (listed_cols l)
+
+-- by columns they are those of the matrix
+pub given_by_columns : (l : CompressedLists) → l.by_rows ≡ false → matrix_given l ≡ listed l
+given_by_columns l by_columns = ap (λ (by_rows : Bool). transpose_if by_rows (listed l)) by_columns
 
 pick_small : (by_rows : Bool) (x y : ℕ) → x < 2 ^ 32 → y < 2 ^ 32 → pick by_rows x y < 2 ^ 32
 pick_small true x y few_x few_y = few_x

@@ -16,15 +16,12 @@ use Rattle.bip_defs.proofs.Sets.{among_at, number_same, one_col, one_row, place_
 use Rattle.bip_defs.proofs.Together.{square_cols_once}
 use Rattle.bip_defs.proofs.Triangular.{cols_once}
 use Rattle.bip_graph.specs.Answers.{orders_of}
-use Rattle.blocktri.specs.BlockForms.{decomposition_of}
-use Rattle.bip_graph.specs.Matching.{Pairing}
 use Rattle.bip_graph.specs.Orders.{rows_before}
 use Rattle.blocktri.specs.Answers.{AreBlockStarts, Fills}
-use Rattle.blocktri.specs.BlockOrders.{AreMatesOf, IsPerfectOf, IsRowOrder, LeavesOrders, OrderLists, TellsBlockOrder}
+use Rattle.blocktri.specs.BlockOrders.{AreMatesOf, IsRowOrder, LeavesOrders, OrderLists, TellsBlockOrder}
 use Rattle.blocktri.specs.Compressed.{IsRoom}
 use Rattle.blocktri.specs.Forms.{TellsIf}
-use Rattle.blocktri.specs.declared.forms.BlockForm.{BlockForm}
-use Rattle.blocktri.proofs.PerfectLemmas.{full_is_maximum, perfect_full, square_col}
+use Rattle.blocktri.proofs.PerfectLemmas.{full_is_maximum, square_col}
 use Rattle.blocktri.proofs.WriteLemmas.{before_more, before_within, once_long}
 
 -- Where there is a perfect matching.
@@ -158,18 +155,19 @@ mates_order a d m rows is full square long mates = record {
 
 -- What is told.
 
--- the orders of a square matrix, from what is written of its form and its matching
-pub order_told : (a : Matrix) (d : BlockForm) (m : Pairing) (old new : OrderLists) → IsPerfectOf a d m → IsRoom a.rows old.row_order → Fills old.row_order new.row_order (AreMatesOf m.pairs (all_cols d.blocks) new.row_order)
-    → Fills old.column_order new.column_order (new.column_order ≡ (orders_of (decomposition_of d)).1) → Fills old.block_starts new.block_starts (AreBlockStarts d.blocks old.block_starts new.block_starts) → TellsBlockOrder a m.pairs (Some (length d.blocks)) old new
-order_told a d m old new is room rows columns starts = record {
-  decomposition = decomposition_of d;
-  is_decomposition = is.form.decomposition;
-  count_is = refl;
+-- the orders of a square matrix, from what is written of its blocks and a perfect matching
+pub order_told : (a : Matrix) (d : Decomposition) (m : List Place) (count : ℕ) (old new : OrderLists) → IsDecompositionOf a d → IsFull a m → a.rows ≡ cols a → IsRoom (cols a) old.row_order → count ≡ length d.blocks
+    → Fills old.row_order new.row_order (AreMatesOf m (all_cols d.blocks) new.row_order) → Fills old.column_order new.column_order (new.column_order ≡ all_cols d.blocks)
+    → Fills old.block_starts new.block_starts (AreBlockStarts d.blocks old.block_starts new.block_starts) → TellsBlockOrder a m (Some count) old new
+order_told a d m count old new is full square room counted rows columns starts = record {
+  decomposition = d;
+  is_decomposition = is;
+  count_is = ap (λ (n : ℕ). Some n) counted;
   rows = record {
     long = rows.long;
-    holds = λ some. let long = rows.long in mates_order a (decomposition_of d) m.pairs new.row_order is.form.decomposition (perfect_full a m is.perfect) is.perfect.square (omega (arith, room, some, long)) (rows.holds some);
+    holds = λ some. let long = rows.long in mates_order a d m new.row_order is full square (omega (arith, room, some, long, square)) (rows.holds some);
   };
-  columns = columns;
+  columns = record { long = columns.long; holds = λ some. columns.holds some ∙ sym (columns_of_blocks a d m is full) };
   starts = starts;
 }
 

@@ -6,9 +6,12 @@ use Rattle.std.specs.List.{slice_range}
 use Rattle.bip_defs.specs.Lists.{Among, AreDistinct}
 use Rattle.bip_defs.specs.Matching.{IsMatching, IsMaximum, IsRank, cols_of, rows_of}
 use Rattle.bip_defs.specs.Matrix.{IsEntry, Matrix, Place, cols, upto}
+use Rattle.bip_defs.proofs.BottleneckLemmas.{full_length}
+use Rattle.bip_defs.proofs.Full.{matching_few}
 use Rattle.bip_defs.proofs.Sets.{among_map_back, rising_distinct, upto_lists, upto_mapped, upto_rising, col_among, col_pair, entry_col, number_same, place_among, row_among, row_pair}
 use Rattle.bip_graph.specs.Matching.{IsMatchingOf, IsMaximumOf, IsPairing, Pairing}
 use Rattle.blocktri.specs.Diagonal.{IsDiagonalFull}
+use Rattle.square_components.specs.Part.{diagonal}
 use Rattle.blocktri.proofs.LookLemmas.{cols_matched_maximum, look_matching, rows_matched_maximum}
 
 -- a number that no place of a part has is not in it
@@ -59,39 +62,46 @@ diagonal_maximum a m x y high broad rows columns pairs pairing full = record {
     is : IsMatchingOf a m
     is = look_matching a m (rows ∙ high) (columns ∙ broad) (λ r c h. let (same, row, col) = (pairs r c).0 h in subst (λ k. IsEntry a r k) same (full r (omega (arith, row, high)) (omega (arith, same, col, broad)))) pairing
 
+-- of a square matrix it has a pair for each row
+pub diagonal_long : (a : Matrix) (m : List Place) (n : ℕ) → n ≡ a.rows → n ≡ cols a → ((r c : ℕ) → Among (r, c) m ↔ ((r ≡ c) × (r < n) × (c < n))) → IsMaximum a m → length m ≡ a.rows
+diagonal_long a m n high broad pairs most =
+    let on : (k : ℕ) → k < n → Among (k, k) m = λ k lt. (pairs k k).1 (refl, lt, lt) in
+    let least = full_length a m (record {
+      matching = most.matching;
+      all_rows = λ r lt. row_among r r m (on r (omega (arith, lt, high)));
+      all_cols = λ c lt. col_among c c m (on c (omega (arith, lt, broad)));
+    }) in
+    let few = matching_few a m most.matching in
+    omega (arith, least, few, high, broad)
+
 -- Its rank.
 
-mapped_back : (f : ℕ → Place) (g : Place → ℕ) → ((x : ℕ) → g (f x) ≡ x) → (xs : List ℕ) → map g (map f xs) ≡ xs
-mapped_back f g back [] = refl
-mapped_back f g back (x ∷ xs) = λ i. back x i ∷ mapped_back f g back xs i
+-- the rows of pairs of equal numbers, and their columns
+pair_rows : (xs : List ℕ) → rows_of (map (λ (i : ℕ). (i, i)) xs) ≡ xs
+pair_rows [] = refl
+pair_rows (x ∷ xs) = ap (λ (ys : List ℕ). x ∷ ys) (pair_rows xs)
 
--- the pairs of the first n places of the diagonal
-abbrev diagonal_pairs : ℕ → List Place
-diagonal_pairs n = map (λ i. (i, i)) (upto n)
+pair_cols : (xs : List ℕ) → cols_of (map (λ (i : ℕ). (i, i)) xs) ≡ xs
+pair_cols [] = refl
+pair_cols (x ∷ xs) = ap (λ (ys : List ℕ). x ∷ ys) (pair_cols xs)
 
-diagonal_rows : (n : ℕ) → rows_of (diagonal_pairs n) ≡ upto n
-diagonal_rows n = mapped_back (λ i. (i, i)) (λ p. p.0) (λ x. refl) (upto n)
-
-diagonal_cols : (n : ℕ) → cols_of (diagonal_pairs n) ≡ upto n
-diagonal_cols n = mapped_back (λ i. (i, i)) (λ p. p.1) (λ x. refl) (upto n)
-
-diagonal_matching : (a : Matrix) (n : ℕ) → n ≤ a.rows → n ≤ cols a → IsDiagonalFull a → IsMatching a (diagonal_pairs n)
+diagonal_matching : (a : Matrix) (n : ℕ) → n ≤ a.rows → n ≤ cols a → IsDiagonalFull a → IsMatching a (diagonal n)
 diagonal_matching a n high broad full = record {
   entries = λ r c h.
       let (i, on, e) = among_map_back (λ (k : ℕ). (k, k)) (r, c) (upto n) h in
       let lt = (upto_lists n).sound i on in
       subst (λ (p : Place). IsEntry a p.0 p.1) e (full i (omega (arith, lt, high)) (omega (arith, lt, broad)));
-  rows_differ = subst AreDistinct (sym (diagonal_rows n)) (rising_distinct (upto n) (upto_rising 0 n));
-  cols_differ = subst AreDistinct (sym (diagonal_cols n)) (rising_distinct (upto n) (upto_rising 0 n));
+  rows_differ = subst AreDistinct (sym (pair_rows (upto n))) (rising_distinct (upto n) (upto_rising 0 n));
+  cols_differ = subst AreDistinct (sym (pair_cols (upto n))) (rising_distinct (upto n) (upto_rising 0 n));
 }
 
 -- a full diagonal that takes all rows, or all columns, has as many places as the rank
 pub full_diagonal_rank : (a : Matrix) (n : ℕ) → n ≤ a.rows → n ≤ cols a → (a.rows ≤ n) ⊎ (cols a ≤ n) → IsDiagonalFull a → IsRank a n
-full_diagonal_rank a n high broad short full = (diagonal_pairs n, maximum short, upto_mapped (λ i. (i, i)) n)
+full_diagonal_rank a n high broad short full = (diagonal n, maximum short, upto_mapped (λ i. (i, i)) n)
   where
-    is : IsMatching a (diagonal_pairs n)
+    is : IsMatching a (diagonal n)
     is = diagonal_matching a n high broad full
 
-    maximum : (a.rows ≤ n) ⊎ (cols a ≤ n) → IsMaximum a (diagonal_pairs n)
-    maximum (inl rows) = rows_matched_maximum a (diagonal_pairs n) is (λ r c e. let lt = e.0 in subst (Among r) (sym (diagonal_rows n)) ((upto_lists n).complete r (omega (arith, lt, rows))))
-    maximum (inr columns) = cols_matched_maximum a (diagonal_pairs n) is (λ r c e. let lt = entry_col a r c e in subst (Among c) (sym (diagonal_cols n)) ((upto_lists n).complete c (omega (arith, lt, columns))))
+    maximum : (a.rows ≤ n) ⊎ (cols a ≤ n) → IsMaximum a (diagonal n)
+    maximum (inl rows) = rows_matched_maximum a (diagonal n) is (λ r c e. let lt = e.0 in subst (Among r) (sym (pair_rows (upto n))) ((upto_lists n).complete r (omega (arith, lt, rows))))
+    maximum (inr columns) = cols_matched_maximum a (diagonal n) is (λ r c e. let lt = entry_col a r c e in subst (Among c) (sym (pair_cols (upto n))) ((upto_lists n).complete c (omega (arith, lt, columns))))

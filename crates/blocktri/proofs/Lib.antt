@@ -1,3 +1,4 @@
+pub mod CompletedLemmas
 pub mod ComponentLemmas
 pub mod CompressedLemmas
 pub mod DiagonalLemmas
@@ -5,10 +6,14 @@ pub mod DiagonalOrderLemmas
 pub mod DmpermLemmas
 pub mod FormLemmas
 pub mod FullDiagonalLemmas
+pub mod GivenPairLemmas
 pub mod LawLemmas
 pub mod LookLemmas
 pub mod MatchedLemmas
 pub mod OrderLaws
+pub mod PairLemmas
+pub mod PairedLaws
+pub mod PairedLemmas
 pub mod PerfectLemmas
 pub mod PermutedLemmas
 pub mod PriceLemmas
@@ -17,5 +22,6 @@ pub mod ReportLaws
 pub mod RisingLemmas
 pub mod SetLemmas
 pub mod SizeLemmas
+pub mod SquareLemmas
 pub mod WeightedLemmas
 pub mod WriteLemmas

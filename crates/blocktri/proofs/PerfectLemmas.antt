@@ -69,17 +69,20 @@ lists_all : (P : ℕ → Type 0) (n k : ℕ) (xs : List ℕ) → xs ≡ upto k �
 lists_all P n k xs are same below all = subst (Lists P) (sym (are ∙ ap upto same)) (lists_same (λ x. x < n) P (upto n) all below (upto_lists n))
 
 -- the parts: all rows and all columns are square
+pub full_parts : (a : Matrix) (m : List Place) (p : Parts) (rows columns : ℕ) → IsFull a m → rows ≡ a.rows → columns ≡ cols a → p.square_rows ≡ upto rows → p.square_cols ≡ upto columns
+    → p.horizontal_rows ≡ [] → p.horizontal_cols ≡ [] → p.vertical_rows ≡ [] → p.vertical_cols ≡ [] → ArePartsOf a p
+full_parts a m p rows columns full high broad sr sc hr hc vr vc = record {
+  horizontal_rows = lists_none (IsHorizontalRow a) p.horizontal_rows hr (no_horizontal_row a m full);
+  horizontal_cols = lists_none (IsHorizontalCol a) p.horizontal_cols hc (no_horizontal_col a m full);
+  square_rows = lists_all (IsSquareRow a) a.rows rows p.square_rows sr high (λ r h. h.0) (square_row a m full);
+  square_cols = lists_all (IsSquareCol a) (cols a) columns p.square_cols sc broad (λ c h. h.0) (square_col a m full);
+  vertical_rows = lists_none (IsVerticalRow a) p.vertical_rows vr (no_vertical_row a m full);
+  vertical_cols = lists_none (IsVerticalCol a) p.vertical_cols vc (no_vertical_col a m full);
+}
+
 pub perfect_parts : (a : Matrix) (m : Pairing) (p : Parts) (rows columns : ℕ) → IsPerfectMatching a m → rows ≡ a.rows → columns ≡ cols a → p.square_rows ≡ upto rows → p.square_cols ≡ upto columns
     → p.horizontal_rows ≡ [] → p.horizontal_cols ≡ [] → p.vertical_rows ≡ [] → p.vertical_cols ≡ [] → ArePartsOf a p
-perfect_parts a m p rows columns is high broad sr sc hr hc vr vc =
-    let full = perfect_full a m is in record {
-      horizontal_rows = lists_none (IsHorizontalRow a) p.horizontal_rows hr (no_horizontal_row a m.pairs full);
-      horizontal_cols = lists_none (IsHorizontalCol a) p.horizontal_cols hc (no_horizontal_col a m.pairs full);
-      square_rows = lists_all (IsSquareRow a) a.rows rows p.square_rows sr high (λ r h. h.0) (square_row a m.pairs full);
-      square_cols = lists_all (IsSquareCol a) (cols a) columns p.square_cols sc broad (λ c h. h.0) (square_col a m.pairs full);
-      vertical_rows = lists_none (IsVerticalRow a) p.vertical_rows vr (no_vertical_row a m.pairs full);
-      vertical_cols = lists_none (IsVerticalCol a) p.vertical_cols vc (no_vertical_col a m.pairs full);
-    }
+perfect_parts a m p rows columns is = full_parts a m.pairs p rows columns (perfect_full a m is)
 
 -- No components are outside it.
 

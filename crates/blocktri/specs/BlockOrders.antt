@@ -1,5 +1,5 @@
 -- What is told of a square matrix of full rank.
-use Rattle.std.specs.Prelude.{◌≡◌, ◌≢◌, ℕ, ◌+◌, ◌<◌, ◌≤◌, Bool, true, List, Option, None, Some, IfNone, IfSome, length, slice_index}
+use Rattle.std.specs.Prelude.{◌≡◌, ◌≢◌, ℕ, ◌+◌, ◌<◌, ◌≤◌, Bool, List, Option, None, Some, length, slice_index}
 use Rattle.bip_defs.specs.Blocks.{block_at}
 use Rattle.bip_defs.specs.Bottleneck.{IsFull}
 use Rattle.bip_defs.specs.Decomposition.{Decomposition, IsDecompositionOf}
@@ -8,17 +8,13 @@ use Rattle.bip_defs.specs.Matching.{IsRank}
 use Rattle.bip_defs.specs.Matrix.{IsEntry, Matrix, Place, cols}
 use Rattle.bip_defs.specs.Once.{ListsOnce}
 use Rattle.bip_graph.specs.Answers.{orders_of}
-use Rattle.bip_graph.specs.Matching.{IsMaximumOf, Pairing}
 use Rattle.bip_graph.specs.Orders.{rows_before}
 use Rattle.blocktri.specs.Answers.{AreBlockStarts, AreRowsOf, Fills}
-use Rattle.blocktri.specs.BlockForms.{IsBlockFormOf}
 use Rattle.blocktri.specs.Compressed.{CompressedLists, IsRoom, column_count, row_count}
 use Rattle.blocktri.specs.Diagonal.{KeepsDiagonal}
 use Rattle.blocktri.specs.Forms.{TellsIf}
-use Rattle.blocktri.specs.PerfectMatchings.{IsPerfectMatching}
 use Rattle.blocktri.specs.declared.diagonal_order.SquareOrder.{SquareOrder}
 use Rattle.blocktri.specs.declared.diagonal_order.SquareOrder.TheVariants.{Full, Singular, NotSquare}
-use Rattle.blocktri.specs.declared.forms.BlockForm.{BlockForm}
 
 -- the lists that the orders of a square matrix are written to
 pub record OrderLists : Type 0 where
@@ -119,16 +115,9 @@ pub record IsSquareOrder (a : Matrix) (d : Decomposition) (pairs : List Place)
   pub order : IsRowOrder a d pairs rows
   pub starts_are : AreBlockStarts d.blocks old starts
 
--- a perfect matching of a square matrix, and its form
-pub record IsPerfectOf (a : Matrix) (f : BlockForm) (m : Pairing) : Type 0 where
-  pub form : IsBlockFormOf a f
-  pub perfect : IsPerfectMatching a m
-
--- a maximum matching that keeps a full diagonal, and the form exactly where that is wanted and the
--- matching is perfect
-pub record IsOrderedOf (a : Matrix) (wanted : Bool) (m : Pairing) (form : Option BlockForm)
-    : Type 0 where
-  pub maximum : IsMaximumOf a m
-  pub diagonal : KeepsDiagonal a m.pairs
-  pub some : IfSome form (λ f. (wanted ≡ true) × IsPerfectOf a f m)
-  pub none : IfNone form (wanted ≡ true → ¬ IsPerfectMatching a m)
+-- the lists have room for the orders of a square matrix of size n
+pub record IsOrderRoom (n : ℕ) (x : OrderLists) : Type 0 where
+  pub row_order : IsRoom n x.row_order
+  pub column_order : IsRoom n x.column_order
+  pub block_starts : IsRoom (n + 1) x.block_starts
+  pub row_of_column : IsRoom n x.row_of_column

@@ -10,11 +10,15 @@ pub mod Diagonals
 pub mod Dmperm
 pub mod Forms
 pub mod Found
+pub mod GivenOrders
+pub mod GivenPairs
 pub mod Looks
 pub mod Matched
 pub mod OuterComponents
+pub mod PairedOrders
 pub mod PerfectMatchings
 pub mod RisingColumns
 pub mod RowPrices
+pub mod SquareForms
 pub mod Weighted
 pub mod Written

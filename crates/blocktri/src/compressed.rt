@@ -81,8 +81,12 @@ impl<N: NumberList> Compressed<N> {
         check_columns(self.others, self.starts, self.ids)
     }
 
-    // The pattern of the matrix.
-    pub(crate) fn pattern(&self, alloc: Global) -> Result<Pattern, OutOfMemory>
+    /// The matrix that is given as a pattern, which is kept by columns and by rows. The lists must be
+    /// right.
+    ///
+    /// Returns `OutOfMemory` if it cannot allocate the pattern. Work: what
+    /// `sp_pattern::Pattern::of_checked_columns` says of its.
+    pub fn pattern(&self, alloc: Global) -> Result<Pattern, OutOfMemory>
         requires { AreCompressed self.now }
         ensures { IfOk result (λ a. a ≡ matrix_given self.now) }
     {

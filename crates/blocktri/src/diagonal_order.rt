@@ -1,27 +1,21 @@
 //! Orders of a square matrix with entries all along the diagonal.
 
-ghost use Rattle.std.specs.Prelude.{◌≡◌, ℕ, ◌+◌, ◌<◌, ◌^◌, IfOk, OnErr, length};
-ghost use Rattle.bip_defs.specs.Blocks.{all_cols};
-ghost use Rattle.bip_defs.specs.Lists.{Among};
-ghost use Rattle.bip_defs.specs.Matching.{cols_of};
-ghost use Rattle.bip_defs.specs.Matrix.{Matrix, cols};
-ghost use Rattle.bip_graph.specs.Answers.{orders_of};
-ghost use Rattle.blocktri.specs.Answers.{AreBlockStarts, Fills};
-ghost use Rattle.blocktri.specs.BlockForms.{decomposition_of};
-ghost use Rattle.blocktri.specs.BlockOrders.{AreMatesOf, HaveOrderRoom, IsOrderedOf, IsPerfectOf, TellsSquare, order_lists};
+ghost use Rattle.std.specs.Prelude.{◌≡◌, IfOk, OnErr};
+ghost use Rattle.bip_defs.specs.Matrix.{cols};
+ghost use Rattle.blocktri.specs.BlockOrders.{HaveOrderRoom, IsOrderRoom, TellsFullRank, TellsSquare, order_lists};
 ghost use Rattle.blocktri.specs.Causes.{RefusesRightly};
-ghost use Rattle.blocktri.specs.Compressed.{AreCompressed, HasMatrix, IsRoom, matrix_given};
+ghost use Rattle.blocktri.specs.Compressed.{HasMatrix};
+ghost use Rattle.blocktri.specs.Diagonal.{KeepsDiagonal};
+ghost use Rattle.blocktri.specs.SquareForms.{IsWhole};
 
 use crate::compressed::{Compressed, is_room, is_room_and_one};
-use crate::forms::{BlockForm, perfect_form};
 use crate::matched::{MatchedMatrix, find_matching};
-use crate::mates::write_wanted_rows;
-use crate::orders::{write_block_starts, write_column_order};
 use crate::refusals::Refusal;
-use bip_graph::Matching;
-use column_lists::PatternColumns;
-use sp_ids::{Col, OutOfMemory};
+use crate::square_form::{SquareForm, write_mates_by_number};
+use column_lists::{ColumnLists, PatternColumns};
+use sp_ids::OutOfMemory;
 use sp_pattern::NumberList;
+use square_components::{OfDiagonal, OfPerfect, SquarePart};
 use std::alloc::Global;
 
 /// What a matrix is that is to be square and of full structural rank.
@@ -51,12 +45,12 @@ pub enum SquareOrder {
 /// looked at first. Where `wants_blocks` is false no blocks are looked for, and the first three
 /// lists stay as they are. After an `Err` nothing was written.
 ///
-/// A matrix by columns goes the short way where each place of the diagonal is an entry, or where
-/// at the first look that [`crate::rank`] describes each column takes a row: the columns are read
-/// where they lie, and no pattern is made. The call then takes 8 bytes a row and 8 a column for
-/// the matching and the parts, and what `dm_fine::fine_by_columns` takes; its work is at most four
-/// looks at each number, what `fine_by_columns` says, and one read and three writes for each
-/// column.
+/// A matrix by columns is read in place, and no pattern is made, where each place of the diagonal is
+/// an entry, where at the first look that [`crate::rank`] describes each column takes a row, or
+/// where searches over a copy of its rising columns match all. With a full diagonal the call takes
+/// what `dm_fine::square_blocks` takes, and with another matching 4 bytes a row and 4 a column more
+/// for it, and what the searches take. Its work is at most four looks at each number, those of the
+/// searches, what `square_blocks` says, and one read and three writes for each column.
 ///
 /// Every other matrix takes besides the pattern and what `rank` takes, with the work of both.
 /// Returns `OutOfMemory` if it cannot allocate these.
@@ -89,88 +83,94 @@ pub fn block_order<N: NumberList>(
     if matrix.rows() != matrix.columns() {
         return Ok(SquareOrder::NotSquare);
     }
-    let (matching, form) = ordered(alloc, matrix, wants_blocks)?;
-    if matching.size() != matching.rows() {
-        return Ok(SquareOrder::Singular(matching.size()));
-    }
-    write_wanted_rows(&matching, row_of_column);
-    match form {
-        None => Ok(SquareOrder::Full(None)),
-        Some(form) => {
-            write_orders(&form, &matching, row_order, column_order, block_starts);
-            Ok(SquareOrder::Full(Some(form.blocks.len() as u32)))
+    let blocks = match find_matching(alloc, matrix)? {
+        MatchedMatrix::Diagonal(size) => {
+            let part = OfDiagonal { size };
+            part.is_square_part();
+            write_order(
+                alloc,
+                matrix.given_columns(),
+                part,
+                wants_blocks,
+                row_order,
+                column_order,
+                block_starts,
+                row_of_column,
+            )?
         }
-    }
-}
-
-// A maximum matching of a square matrix, and the form where it is wanted and the matching is
-// perfect.
-fn ordered<N: NumberList>(
-    alloc: Global,
-    matrix: &Compressed<N>,
-    wants_blocks: bool,
-) -> Result<(Matching, Option<BlockForm>), OutOfMemory>
-    requires compressed { AreCompressed matrix.now }
-    requires square { (matrix_given matrix.now).rows ≡ cols (matrix_given matrix.now) }
-    ensures { IfOk result (λ o. IsOrderedOf (matrix_given matrix.now) wants_blocks o.0 o.1) }
-{
-    match find_matching(alloc, matrix)? {
         MatchedMatrix::Perfect(matching) => {
-            if !wants_blocks {
-                return Ok((matching, None));
-            }
-            let form = perfect_form(alloc, matrix.given_columns(), &matching)?;
-            Ok((matching, Some(form)))
+            let part = OfPerfect {
+                matching: &matching,
+            };
+            part.is_square_part();
+            write_order(
+                alloc,
+                matrix.given_columns(),
+                part,
+                wants_blocks,
+                row_order,
+                column_order,
+                block_starts,
+                row_of_column,
+            )?
         }
         MatchedMatrix::Searched(search) => {
-            if !wants_blocks || search.matching.size() != search.matching.rows() {
-                return Ok((search.matching, None));
+            let size = search.matching.size();
+            if size != search.matching.rows() {
+                return Ok(SquareOrder::Singular(size));
             }
-            let columns = PatternColumns {
-                pattern: &search.pattern,
+            let part = OfPerfect {
+                matching: &search.matching,
             };
-            let form = perfect_form(alloc, columns, &search.matching)?;
-            Ok((search.matching, Some(form)))
+            part.is_square_part();
+            write_order(
+                alloc,
+                PatternColumns {
+                    pattern: &search.pattern,
+                },
+                part,
+                wants_blocks,
+                row_order,
+                column_order,
+                block_starts,
+                row_of_column,
+            )?
         }
-    }
+    };
+    Ok(SquareOrder::Full(blocks))
 }
 
-// Writes the orders and the block starts, those of them that are wanted.
-fn write_orders(
-    form: &BlockForm,
-    matching: &Matching,
+// Finds the blocks of a matrix with a perfect matching, where they are wanted, and writes the lists
+// that are wanted. Gives the number of blocks.
+fn write_order<C: ColumnLists, S: SquarePart>(
+    alloc: Global,
+    columns: C,
+    part: S,
+    wants_blocks: bool,
     row_order: &mut [u32],
     column_order: &mut [u32],
     block_starts: &mut [u32],
-)
-    requires some { (a : Matrix) × IsPerfectOf a form.now matching.now × (a.rows < 2 ^ 32) }
-    requires rows { IsRoom form.now.m row_order.old }
-    requires columns { IsRoom form.now.n column_order.old }
-    requires starts { IsRoom (form.now.n + 1) block_starts.old }
-    ensures rows { Fills row_order.old row_order.new
-        (AreMatesOf matching.now.pairs (all_cols form.now.blocks) row_order.new) }
-    ensures columns { Fills column_order.old column_order.new
-        (column_order.new ≡ (orders_of (decomposition_of form.now)).1) }
-    ensures starts { Fills block_starts.old block_starts.new
-        (AreBlockStarts form.now.blocks block_starts.old block_starts.new) }
+    row_of_column: &mut [u32],
+) -> Result<Option<u32>, OutOfMemory>
+    requires whole { IsWhole (C.matrix columns) (S.rows part) (S.cols part) (S.pairs part) }
+    requires diagonal { KeepsDiagonal (C.matrix columns) (S.pairs part) }
+    requires room { IsOrderRoom (cols (C.matrix columns)) (order_lists row_order.old
+        column_order.old block_starts.old row_of_column.old) }
+    ensures found { IfOk result (λ count. TellsFullRank (C.matrix columns) wants_blocks count
+        (order_lists row_order.old column_order.old block_starts.old row_of_column.old)
+        (order_lists row_order.new column_order.new block_starts.new row_of_column.new)) }
+    ensures kept { OnErr result
+        (order_lists row_order.new column_order.new block_starts.new row_of_column.new
+        ≡ order_lists row_order.old column_order.old block_starts.old row_of_column.old) }
 {
-    write_mates(row_order, form.blocks.all_cols(), matching);
-    if column_order.len() != 0 {
-        write_column_order(form, column_order);
+    if !wants_blocks {
+        write_mates_by_number(part, row_of_column);
+        return Ok(None);
     }
-    if block_starts.len() != 0 {
-        write_block_starts(form, block_starts);
-    }
-}
-
-// Writes the mate of each column that is listed, where the rows are wanted.
-fn write_mates(row_order: &mut [u32], columns: &[Col], matching: &Matching)
-    requires matched { (c : ℕ) → Among c columns.now → Among c (cols_of matching.now.pairs) }
-    requires room { IsRoom (length columns.now) row_order.old }
-    ensures { Fills row_order.old row_order.new
-        (AreMatesOf matching.now.pairs columns.now row_order.new) }
-{
-    for k in 0..row_order.len() {
-        row_order[k] = matching.mate(columns[k]).0;
-    }
+    let form = SquareForm::find(alloc, columns, part)?;
+    form.write_mates(part, row_order);
+    form.write_columns(column_order);
+    form.write_starts(block_starts);
+    write_mates_by_number(part, row_of_column);
+    Ok(Some(form.count()))
 }

@@ -56,7 +56,6 @@ pub fn first_look<N: NumberList>(
             }
         }
     }
-    matching.is_matching();
     if missed == 0 {
         return Ok(Look::Maximum(matching));
     }

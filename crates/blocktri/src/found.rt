@@ -14,7 +14,7 @@ ghost use Rattle.blocktri.specs.PerfectMatchings.{IsPerfectMatching};
 
 use crate::compressed::Compressed;
 use crate::forms::{BlockForm, form_of_parts, perfect_form, square_parts};
-use crate::matched::{MatchedMatrix, SearchedMatrix, find_matching};
+use crate::matched::{MatchedMatrix, SearchedMatrix, diagonal_matching, find_matching};
 use crate::sizes::Wants;
 use bip_graph::{Blocks, Components, Matching, OuterMarks, Parts};
 use column_lists::PatternColumns;
@@ -50,6 +50,10 @@ pub fn find<N: NumberList>(
     ensures { IfOk result (IsFoundOf (matrix_given matrix.now) wants) }
 {
     match find_matching(alloc, matrix)? {
+        MatchedMatrix::Diagonal(size) => {
+            let matching = diagonal_matching(alloc, matrix, size)?;
+            find_perfect(alloc, matrix, matching, wants)
+        }
         MatchedMatrix::Perfect(matching) => find_perfect(alloc, matrix, matching, wants),
         MatchedMatrix::Searched(search) => find_searched(alloc, search, wants),
     }

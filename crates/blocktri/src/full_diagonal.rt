@@ -1,9 +1,10 @@
 //! Matrices with entries all along the diagonal.
 
-ghost use Rattle.std.specs.Prelude.{◌≡◌, ◌↔◌, ℕ, ◌<◌, ◌≤◌, IfNone, IfOk, IfSome, IsTrue, length};
+ghost use Rattle.std.specs.Prelude.{◌≡◌, ◌↔◌, ℕ, ◌-◌, ◌<◌, ◌≤◌, IfNone, IfOk, IfSome, IsTrue, length};
 ghost use Rattle.std.specs.List.{slice_range};
 ghost use Rattle.bip_defs.specs.Lists.{Among};
 ghost use Rattle.bip_defs.specs.Matching.{IsRank};
+ghost use Rattle.bip_defs.specs.Matrix.{IsEntry};
 ghost use Rattle.bip_graph.specs.Matching.{IsMaximumOf, IsPairing};
 ghost use Rattle.blocktri.specs.Compressed.{AreCompressed, listed, matrix_given};
 ghost use Rattle.blocktri.specs.Diagonal.{HasDiagonal, IsDiagonalFull};
@@ -51,23 +52,35 @@ pub fn diagonal_rank<N: NumberList>(matrix: &Compressed<N>) -> Option<u32>
     None
 }
 
-// Whether each place of the diagonal is an entry.
-fn is_diagonal_full<N: NumberList>(matrix: &Compressed<N>) -> bool
+/// Whether each place of the diagonal is an entry.
+///
+/// Takes no memory. Work: one look at each number at most, up to the first column without its entry
+/// of the diagonal.
+pub fn is_diagonal_full<N: NumberList>(matrix: &Compressed<N>) -> bool
     requires { AreCompressed matrix.now }
     ensures { IsTrue result ↔ IsDiagonalFull (listed matrix.now) }
 {
-    columns_give_their_places();
-    let others = matrix.others as usize;
-    let lists = matrix.starts.len() - 1;
+    let others = matrix.others as u32;
+    let lists = (matrix.starts.len() - 1) as u32;
     let sides = if others < lists { others } else { lists };
     for side in 0..sides {
-        let from = matrix.starts.at(side) as usize;
-        let to = matrix.starts.at(side + 1) as usize;
-        if !has_id(matrix.ids, from, to, side as u64) {
+        if !has_id_of(matrix, side, side) {
             return false;
         }
     }
     true
+}
+
+/// Whether the ids of a column, by rows of a row, have this number.
+pub fn has_id_of<N: NumberList>(matrix: &Compressed<N>, list: u32, id: u32) -> bool
+    requires compressed { AreCompressed matrix.now }
+    requires list { list < length matrix.now.starts - 1 }
+    ensures { IsTrue result ↔ IsEntry (listed matrix.now) id list }
+{
+    columns_give_their_places();
+    let from = matrix.starts.at(list as usize) as usize;
+    let to = matrix.starts.at(list as usize + 1) as usize;
+    has_id(matrix.ids, from, to, id as u64)
 }
 
 // Whether a number is one of those from one place to before another.
@@ -83,8 +96,10 @@ fn has_id<N: NumberList>(ids: N, from: usize, to: usize, id: u64) -> bool
     false
 }
 
-// The pairs of all places of the diagonal.
-fn diagonal(alloc: Global, rows: u32, cols: u32) -> Result<Matching, OutOfMemory>
+/// The pairs of all places of the diagonal.
+///
+/// Returns `OutOfMemory` if it cannot allocate 4 bytes a row and 4 a column.
+pub fn diagonal(alloc: Global, rows: u32, cols: u32) -> Result<Matching, OutOfMemory>
     ensures rows { IfOk result (λ m. m.rows ≡ rows) }
     ensures cols { IfOk result (λ m. m.cols ≡ cols) }
     ensures pairing { IfOk result IsPairing }

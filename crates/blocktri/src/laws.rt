@@ -8,10 +8,14 @@ ghost use Rattle.bip_graph.specs.Answers.{IsAnalysis};
 ghost use Rattle.blocktri.specs.Agreements.{ComponentsAgree, EachComponentsAre, EachFormIsOf, EachLeastMatchingIs, EachRankIs, LeastMatchingsAgree, OrdersAgree, SizesAgree};
 ghost use Rattle.bip_defs.specs.Decomposition.{Decomposition};
 ghost use Rattle.bip_graph.specs.Answers.{orders_of};
-ghost use Rattle.blocktri.specs.BlockOrders.{IsSquareOrder, IsUpperByBlocks};
+ghost use Rattle.bip_graph.specs.Matching.{Pairing};
+ghost use Rattle.blocktri.specs.BlockOrders.{IsSquareOrder, IsUpperByBlocks, OrderLists};
+ghost use Rattle.blocktri.specs.PairedOrders.{HasAllLists, TellsPairedOrder};
 ghost use Rattle.blocktri.specs.PerfectMatchings.{HasNoPerfectMatching, IsBelowFullRank};
+ghost use Rattle.filled_columns.specs.Filled.{filled};
 ghost use Rattle.sp_pattern.specs.Columns.{AreColumns, matrix_of, places_of};
 
+use filled_columns::filled_entries;
 use sp_pattern::columns_give_their_places;
 
 /// What the calls answer of compressed columns is what `btf` answers of a file with the same
@@ -69,3 +73,17 @@ pub fn block_orders_are_block_upper_triangular()
         → IsSquareOrder a d pairs rows old starts
         → slice_index starts (length d.blocks) ≡ a.rows }
 {}
+
+/// In the orders of [`crate::completed_order`] and [`crate::order_by`] the matrix filled with the
+/// pairs is block upper triangular, and so is the matrix itself: no entry's row is in a later block
+/// than its column.
+pub fn paired_orders_are_block_upper_triangular()
+    ensures filled { (a : Matrix) (m : Pairing) (count : ℕ) (old new : OrderLists)
+        → TellsPairedOrder a m count old new → HasAllLists old → IsUpperByBlocks
+        (filled a m.pairs) count new.row_order new.column_order new.block_starts }
+    ensures entries { (a : Matrix) (m : Pairing) (count : ℕ) (old new : OrderLists)
+        → TellsPairedOrder a m count old new → HasAllLists old → IsUpperByBlocks
+        a count new.row_order new.column_order new.block_starts }
+{
+    filled_entries();
+}

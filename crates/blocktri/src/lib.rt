@@ -9,6 +9,7 @@
 
 mod block_form;
 mod bottleneck_matching;
+mod completed_orders;
 mod component_numbers;
 mod compressed;
 mod diagonal_order;
@@ -20,6 +21,8 @@ mod flat_look;
 mod forms;
 mod found;
 mod full_diagonal;
+mod given_orders;
+mod given_pairs;
 mod heaviest_diagonal;
 mod laws;
 mod matched;
@@ -28,31 +31,42 @@ mod mates;
 mod maximum;
 mod narrow_prices;
 mod orders;
+mod paired_blocks;
+mod pairing_refusals;
+mod pairs_refusals;
 mod permuted;
 mod refusals;
 mod rising_columns;
 mod row_prices;
 mod sizes;
+mod square_form;
 mod structural_rank;
 mod wanted_lists;
+mod warm_start;
 mod weighted;
 mod write;
 mod write_diagonal;
 
 pub use block_form::decomposition;
 pub use bottleneck_matching::{LeastWeight, bottleneck};
-pub use compressed::Compressed;
+pub use completed_orders::{PairedOrder, completed_order};
+pub use compressed::{Compressed, is_room};
 pub use diagonal_order::{SquareOrder, block_order};
 pub use diagonal_refusals::DiagonalRefusal;
 pub use dm_permutations::dmperm;
+pub use given_orders::{OrderBy, order_by};
 pub use heaviest_diagonal::{Sum, heaviest};
 pub use laws::{
     answers_are_those_of_a_file, answers_are_those_of_a_report,
     block_orders_are_block_upper_triangular, no_perfect_matching_is_below_full_rank,
+    paired_orders_are_block_upper_triangular,
 };
 pub use matchings::matching;
+pub use pairing_refusals::PairingRefusal;
+pub use pairs_refusals::PairsRefusal;
 pub use refusals::Refusal;
 pub use sizes::{ComponentCounts, Sizes, Wants};
 pub use sp_pattern::{ColumnsError, Narrow, NumberList, Wide};
 pub use structural_rank::rank;
+pub use warm_start::matching_from;
 pub use weighted::Weighted;

@@ -57,8 +57,8 @@ pub fn matching<N: NumberList>(
     Ok(size)
 }
 
-// Writes the least maximum matching.
-fn write_least<N: NumberList>(
+/// Writes the least maximum matching.
+pub fn write_least<N: NumberList>(
     alloc: Global,
     matrix: &Compressed<N>,
     row_of_column: &mut [u32],

@@ -6,7 +6,7 @@ ghost use Rattle.bip_defs.specs.Parts.{IsHorizontalRow};
 ghost use Rattle.bip_graph.specs.Matching.{IsMatchingOf, IsMaximumOf};
 ghost use Rattle.bip_graph.specs.OuterMarks.{AreOuterMarks};
 ghost use Rattle.blocktri.specs.Compressed.{AreCompressed, listed, matrix_given};
-ghost use Rattle.blocktri.specs.Looks.{IsLook};
+ghost use Rattle.blocktri.specs.Looks.{IsColumnSearch, IsLook};
 
 use crate::compressed::Compressed;
 use crate::first_look::{Look, first_look};
@@ -19,6 +19,15 @@ use sp_ids::OutOfMemory;
 use sp_pattern::{FromRows, NumberList, Pattern, Side};
 use std::alloc::Global;
 
+/// What a search over the columns alone comes to.
+#[derive(Drop)]
+pub enum ColumnSearch {
+    /// A maximum matching, and what the last phase has marked.
+    Found(Matching, Option<OuterMarks>),
+    /// None. A search over the pattern goes on from this look, or without one it begins anew.
+    NotFound(Option<Look>),
+}
+
 /// A maximum matching of the matrix whose compressed columns the lists are. Where the first look
 /// finds one, no column is copied, and where searches from rising columns go on to the end, no
 /// pattern is made.
@@ -29,30 +38,65 @@ pub fn maximum_matching<N: NumberList>(
     requires { AreCompressed matrix.now }
     ensures { IfOk result (IsMaximumOf (listed matrix.now)) }
 {
+    match search_columns(alloc, matrix)? {
+        ColumnSearch::Found(matching, _marks) => Ok(matching),
+        ColumnSearch::NotFound(look) => {
+            let pattern = matrix.listed(alloc)?;
+            let (matching, _marks) = search_pattern(alloc, &pattern, look)?;
+            Ok(matching)
+        }
+    }
+}
+
+/// The first look at the columns, and where that finds no maximum matching and the row numbers of
+/// each column rise, searches over a copy of them, as far as these pay.
+///
+/// Returns `OutOfMemory` if it cannot allocate what the look takes, 4 bytes a number and 4 a column
+/// for the copy, and what the searches take.
+pub fn search_columns<N: NumberList>(
+    alloc: Global,
+    matrix: &Compressed<N>,
+) -> Result<ColumnSearch, OutOfMemory>
+    requires { AreCompressed matrix.now }
+    ensures { IfOk result (IsColumnSearch (listed matrix.now)) }
+{
     let (rows, starts, ids) = (matrix.others as u32, matrix.starts, matrix.ids);
     match first_look(alloc, rows, starts, ids)? {
-        Look::Maximum(matching) => Ok(matching),
-        Look::FromColumns(matching, unmatched) => {
-            if are_rising(starts, ids) {
-                let columns = RisingColumns::copy(alloc, rows, starts, ids)?;
-                if let Some((found, _marks)) = search_on(alloc, &columns, matching, unmatched)? {
-                    return Ok(found);
-                }
-                drop(columns);
-                let pattern = matrix.listed(alloc)?;
-                let (found, _marks) = search_anew(alloc, &pattern)?;
-                return Ok(found);
-            }
-            let pattern = matrix.listed(alloc)?;
-            let look = Look::FromColumns(matching, unmatched);
-            let (found, _marks) = searched(alloc, &pattern, look)?;
-            Ok(found)
-        }
+        Look::Maximum(matching) => Ok(ColumnSearch::Found(matching, None)),
         Look::FromRows(matching, unmatched) => {
-            let pattern = matrix.listed(alloc)?;
-            let (found, _marks) = searched(alloc, &pattern, Look::FromRows(matching, unmatched))?;
-            Ok(found)
+            Ok(ColumnSearch::NotFound(Some(Look::FromRows(matching, unmatched))))
         }
+        Look::FromColumns(matching, unmatched) => {
+            if !are_rising(starts, ids) {
+                let look = Look::FromColumns(matching, unmatched);
+                return Ok(ColumnSearch::NotFound(Some(look)));
+            }
+            let columns = RisingColumns::copy(alloc, rows, starts, ids)?;
+            match search_on(alloc, &columns, matching, unmatched)? {
+                None => Ok(ColumnSearch::NotFound(None)),
+                Some((maximum, marked)) => {
+                    let marks = marked.map(OuterMarks::HorizontalRows);
+                    Ok(ColumnSearch::Found(maximum, marks))
+                }
+            }
+        }
+    }
+}
+
+/// A maximum matching from a look at the columns, or without one from the start of Karp and Sipser,
+/// and what the last phase has marked.
+pub fn search_pattern(
+    alloc: Global,
+    pattern: &Pattern,
+    look: Option<Look>,
+) -> Result<(Matching, Option<OuterMarks>), OutOfMemory>
+    requires { IfSome look (IsLook pattern.now) }
+    ensures maximum { IfOk result (λ p. IsMaximumOf pattern.now p.0) }
+    ensures marks { IfOk result (λ p. IfSome p.1 (AreOuterMarks pattern.now)) }
+{
+    match look {
+        Some(look) => searched(alloc, pattern, look),
+        None => search_anew(alloc, pattern),
     }
 }
 
@@ -78,9 +122,9 @@ pub fn matched_for_the_least<N: NumberList>(
     Ok((pattern, matching))
 }
 
-/// A maximum matching, from what a look at the columns found, or from the start of Karp and Sipser
-/// where searches from there do not go on, and what the last phase has marked.
-pub fn searched(
+// A maximum matching, from what a look at the columns found, or from the start of Karp and Sipser
+// where searches from there do not go on, and what the last phase has marked.
+fn searched(
     alloc: Global,
     pattern: &Pattern,
     look: Look,

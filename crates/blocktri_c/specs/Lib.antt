@@ -1,9 +1,12 @@
 pub mod BottleneckStatuses
 pub mod DiagonalStatuses
 pub mod DmpermStatuses
+pub mod EditStatuses
 pub mod FormSizes
 pub mod FormStatuses
 pub mod HeaviestStatuses
 pub mod MatchingStatuses
 pub mod OrderStatuses
+pub mod PairedStatuses
+pub mod PairsStatuses
 pub mod Statuses

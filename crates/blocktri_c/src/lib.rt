@@ -4,8 +4,8 @@
 //! starts a thread or takes a lock, so calls on different lists may run at once.
 //!
 //! Every call gives a status. At 0 there is an answer, and `fault` is as it was; at any other there
-//! is none, and nothing was written but `fault` at 4, 20 and 21, where it gets the place of the
-//! fault, and at 1 the rank by `proved_block_order`. At 1 the matrix is singular, at 2 it is not
+//! is none, and nothing was written but `fault` at 4, 20, 21, 27 and 28, where it gets the place of
+//! the fault, and at 1 the rank by `proved_block_order`. At 1 the matrix is singular, at 2 it is not
 //! square.
 #![tactic(auto)]
 
@@ -15,8 +15,12 @@ mod compressed_lists;
 mod diagonal_order;
 mod diagonal_statuses;
 mod dm_permutations;
+mod edit_statuses;
+mod edits;
 mod form_sizes;
 mod heaviest_diagonal;
 mod matching;
+mod paired_orders;
 mod rank;
 mod statuses;
+mod warm_start;

@@ -33,7 +33,7 @@ first_marks t of_rows g = record {
         (λ (q : (c : ℕ) × Among (r, c) g.pairs × (get_or of_rows r 0 ≡ get_or g.numbers c 0)).
         let within = entry_col t.matrix r q.0 (g.matching.entries r q.0 q.1) in
         let is : get_or of_rows r 0 ≡ look g.numbers q.0 = q.2 ∙ looked t.matrix g.pairs g.numbers (length t.cols) q.0 g.numbered within in
-        ⊎_elim (λ (lt : look g.numbers q.0 < length t.cols). omega (arith, is, lt)) (λ ge. absurd (some (is ∙ g.numbered.outside q.0 (λ square. let lt = g.numbered.below q.0 square in absurd (omega (arith, lt, ge)))))) (below_or (look g.numbers q.0) (length t.cols)))
+        ⊎_elim (λ (lt : look g.numbers q.0 < length t.cols). omega (arith, is, lt)) (λ ge. absurd (some (is ∙ g.numbered.columns.outside q.0 (λ square. let lt = g.numbered.columns.below q.0 square in absurd (omega (arith, lt, ge)))))) (below_or (look g.numbers q.0) (length t.cols)))
         (λ q. absurd (some q.1))
         (g.mates.each r rt)
 

@@ -5,10 +5,11 @@ use Rattle.bip_defs.specs.Blocks.{AreBlocksOf, AreInOrder, Block, IsBlock, Meets
 use Rattle.bip_defs.specs.Components.{IsComponent}
 use Rattle.bip_defs.specs.Lists.{Among, AreDistinct, IsRising, Lists, StandsAt}
 use Rattle.bip_defs.specs.Matrix.{Matrix, Place, cols}
-use Rattle.bip_defs.specs.Parts.{IsSquareCol}
+use Rattle.bip_defs.specs.Parts.{IsSquareCol, IsSquareRow}
 use Rattle.bip_defs.proofs.Fine.{block_is_component, component_is_block}
-use Rattle.bip_defs.proofs.Sets.{among_at, among_left, among_map, among_map_back, among_right, below_each_sound, col_among, entry_col, lists_same, lists_unique, number_same, one_col, row_among}
+use Rattle.bip_defs.proofs.Sets.{among_at, among_left, among_map, among_map_back, among_right, below_each_sound, col_among, entry_col, lists_same, lists_unique, number_same, one_col, row_among, row_pair}
 use Rattle.bip_graph.specs.Matching.{none}
+use Rattle.square_components.specs.Answers.{IsOneComponent}
 use Rattle.square_components.specs.Numbers.{look}
 use Rattle.dm_fine.specs.BlockOrder.{AreOrdered, Follow}
 use Rattle.dm_fine.specs.Condensation.{IsCondensation}
@@ -21,10 +22,10 @@ col_stable : (a : Matrix) (c : ℕ) → c < cols a → ¬ ¬ IsSquareCol a c →
 col_stable a c lt nn = (lt, λ h. nn (λ s. s.1 h), λ v. nn (λ s. s.2 v))
 
 pub number_square : (a : Matrix) (m : List Place) (numbers : List ℕ) (n c : ℕ) → n < 2 ^ 32 → AreNumberedByLeast a m numbers n → c < cols a → look numbers c < n → IsSquareCol a c
-number_square a m numbers n c small s lt below = col_stable a c lt (λ off. let e = s.outside c off in let few = s.few in absurd (omega (arith, e, few, below, small)))
+number_square a m numbers n c small s lt below = col_stable a c lt (λ off. let e = s.columns.outside c off in let few = s.columns.few in absurd (omega (arith, e, few, below, small)))
 
 pub looked : (a : Matrix) (m : List Place) (numbers : List ℕ) (n c : ℕ) → AreNumberedByLeast a m numbers n → c < cols a → get_or numbers c 0 ≡ look numbers c
-looked a m numbers n c s lt = let long = s.long in get_or_default numbers c 0 none (omega (arith, long, lt))
+looked a m numbers n c s lt = let long = s.columns.long in get_or_default numbers c 0 none (omega (arith, long, lt))
 
 -- the least column of component j
 abbrev pub least_of : Layout → ℕ → ℕ
@@ -44,29 +45,29 @@ module _ (t : Layout) (of_rows : List ℕ) (g : IsCondensation t of_rows) where
   pub cols_component : (k : ℕ) → k < length t.cols → Lists (λ x. IsSquareCol t.matrix x × (look g.numbers x ≡ k)) (group t.cols k)
   cols_component k lt = lists_same (StandsAt g.numbers k) (λ x. IsSquareCol t.matrix x × (look g.numbers x ≡ k)) (group t.cols k)
       (λ x h.
-      let long = g.numbered.long in
+      let long = g.numbered.columns.long in
       let within : x < cols t.matrix = let l = h.0 in omega (arith, l, long) in
       let is : look g.numbers x ≡ k = sym (looked t.matrix g.pairs g.numbers (length t.cols) x g.numbered within) ∙ h.1 in
       (number_square t.matrix g.pairs g.numbers (length t.cols) x g.laid_out.few g.numbered within (omega (arith, is, lt)), is))
-      (λ x h. let long = g.numbered.long in let within = h.0.0 in (omega (arith, long, within), looked t.matrix g.pairs g.numbers (length t.cols) x g.numbered within ∙ h.1))
+      (λ x h. let long = g.numbered.columns.long in let within = h.0.0 in (omega (arith, long, within), looked t.matrix g.pairs g.numbers (length t.cols) x g.numbered within ∙ h.1))
       (g.by_col.lists k lt)
 
-  pub rows_component : (k : ℕ) → k < length t.cols → Lists (λ x. (c : ℕ) × Among (x, c) g.numbered.square × (look g.numbers c ≡ k)) (group t.rows k)
-  rows_component k lt = lists_same (StandsAt of_rows k) (λ x. (c : ℕ) × Among (x, c) g.numbered.square × (look g.numbers c ≡ k)) (group t.rows k) over back (g.by_row.lists k lt)
+  pub rows_component : (k : ℕ) → k < length t.cols → Lists (λ x. (c : ℕ) × Among (x, c) g.numbered.columns.square × (look g.numbers c ≡ k)) (group t.rows k)
+  rows_component k lt = lists_same (StandsAt of_rows k) (λ x. (c : ℕ) × Among (x, c) g.numbered.columns.square × (look g.numbers c ≡ k)) (group t.rows k) over back (g.by_row.lists k lt)
     where
-      over : (x : ℕ) → StandsAt of_rows k x → (c : ℕ) × Among (x, c) g.numbered.square × (look g.numbers c ≡ k)
+      over : (x : ℕ) → StandsAt of_rows k x → (c : ℕ) × Among (x, c) g.numbered.columns.square × (look g.numbers c ≡ k)
       over x h = ⊎_elim
           (λ (q : (c : ℕ) × Among (x, c) g.pairs × (get_or of_rows x 0 ≡ get_or g.numbers c 0)).
           let within = entry_col t.matrix x q.0 (g.matching.entries x q.0 q.1) in
           let is : look g.numbers q.0 ≡ k = sym (looked t.matrix g.pairs g.numbers (length t.cols) q.0 g.numbered within) ∙ sym q.2 ∙ h.1 in
-          (q.0, g.numbered.all_pairs x q.0 q.1 (number_square t.matrix g.pairs g.numbers (length t.cols) q.0 g.laid_out.few g.numbered within (omega (arith, is, lt))), is))
+          (q.0, g.numbered.columns.all_pairs x q.0 q.1 (number_square t.matrix g.pairs g.numbers (length t.cols) q.0 g.laid_out.few g.numbered within (omega (arith, is, lt))), is))
           (λ q. let e = q.1 in let is = h.1 in let few = g.laid_out.few in absurd (omega (arith, e, is, few, lt)))
           (g.mates.each x (let long = g.mates.long in let l = h.0 in omega (arith, long, l)))
 
-      back : (x : ℕ) → (c : ℕ) × Among (x, c) g.numbered.square × (look g.numbers c ≡ k) → StandsAt of_rows k x
+      back : (x : ℕ) → (c : ℕ) × Among (x, c) g.numbered.columns.square × (look g.numbers c ≡ k) → StandsAt of_rows k x
       back x h =
           let (c, p, is) = h in
-          let pair = g.numbered.are_pairs x c p in
+          let pair = g.numbered.columns.are_pairs x c p in
           let entry = g.matching.entries x c pair in
           let within = entry_col t.matrix x c entry in
           let lt = entry.0 in
@@ -80,7 +81,7 @@ module _ (t : Layout) (of_rows : List ℕ) (g : IsCondensation t of_rows) where
 
   -- each component has a column
   pub some_col : (k : ℕ) → k < length t.cols → 0 < length (group t.cols k)
-  some_col k lt = let (x, square, is) = g.numbered.used k lt in some_at x (group t.cols k) ((cols_component k lt).complete x (square, is))
+  some_col k lt = let (x, square, is) = g.numbered.columns.used k lt in some_at x (group t.cols k) ((cols_component k lt).complete x (square, is))
 
   pub least : (k : ℕ) → k < length t.cols → IsSquareCol t.matrix (least_of t k) × (look g.numbers (least_of t k) ≡ k)
   least k lt = (cols_component k lt).sound (least_of t k) (among_at (group t.cols k) 0 0 (some_col k lt))
@@ -99,7 +100,7 @@ module _ (t : Layout) (of_rows : List ℕ) (g : IsCondensation t of_rows) where
   falls j k jt kt w =
       let (square, is) = (cols_component j jt).sound w.col w.in_col in
       let (d, p, e) = (rows_component k kt).sound w.row w.in_row in
-      let mate_square = g.numbered.perfect.only_cols d (col_among w.row d g.numbered.square p) in
+      let mate_square = g.numbered.columns.perfect.only_cols d (col_among w.row d g.numbered.columns.square p) in
       let le = g.numbered.components.falling w.row w.col d square w.entry p in
       let apart : g.numbered.finished d ≢ g.numbered.finished w.col = λ f. w.other (sym is ∙ sym ((g.numbered.same d w.col mate_square square).1 f) ∙ e) in
       let here = (g.numbered.same d (least_of t k) mate_square (least k kt).0).0 (e ∙ sym (least k kt).1) in
@@ -109,11 +110,11 @@ module _ (t : Layout) (of_rows : List ℕ) (g : IsCondensation t of_rows) where
 -- Blocks.
 
 -- the columns of a number are those that were finished with one of them
-finished_component : (a : Matrix) (m : List Place) (numbers : List ℕ) (n x k : ℕ) (b : Block) → (s : AreNumberedByLeast a m numbers n) → IsSquareCol a x → look numbers x ≡ k → IsComponent a s.square (look numbers) k b → IsComponent a s.square s.finished (s.finished x) b
+finished_component : (a : Matrix) (m : List Place) (numbers : List ℕ) (n x k : ℕ) (b : Block) → (s : AreNumberedByLeast a m numbers n) → IsSquareCol a x → look numbers x ≡ k → IsComponent a s.columns.square (look numbers) k b → IsComponent a s.columns.square s.finished (s.finished x) b
 finished_component a m numbers n x k b s square is h = record {
-  rows = lists_same (λ r. (c : ℕ) × Among (r, c) s.square × (look numbers c ≡ k)) (λ r. (c : ℕ) × Among (r, c) s.square × (s.finished c ≡ s.finished x)) b.rows
-      (λ r p. let (c, on, e) = p in (c, on, (s.same c x (s.perfect.only_cols c (col_among r c s.square on)) square).0 (e ∙ sym is)))
-      (λ r p. let (c, on, e) = p in (c, on, (s.same c x (s.perfect.only_cols c (col_among r c s.square on)) square).1 e ∙ is))
+  rows = lists_same (λ r. (c : ℕ) × Among (r, c) s.columns.square × (look numbers c ≡ k)) (λ r. (c : ℕ) × Among (r, c) s.columns.square × (s.finished c ≡ s.finished x)) b.rows
+      (λ r p. let (c, on, e) = p in (c, on, (s.same c x (s.columns.perfect.only_cols c (col_among r c s.columns.square on)) square).0 (e ∙ sym is)))
+      (λ r p. let (c, on, e) = p in (c, on, (s.same c x (s.columns.perfect.only_cols c (col_among r c s.columns.square on)) square).1 e ∙ is))
       h.rows;
   cols = lists_same (λ c. IsSquareCol a c × (look numbers c ≡ k)) (λ c. IsSquareCol a c × (s.finished c ≡ s.finished x)) b.cols
       (λ c p. (p.0, (s.same c x p.0 square).0 (p.1 ∙ sym is)))
@@ -130,6 +131,27 @@ component_same a m number k b d x y = λ i. record {
 distinct_blocks : (f : ℕ → Block) (ks : List ℕ) → ((j k : ℕ) → Among j ks → Among k ks → f j ≡ f k → j ≡ k) → AreDistinct ks → AreDistinct (map f ks)
 distinct_blocks f [] own d = tt
 distinct_blocks f (k ∷ ks) own d = (λ h. let (j, on, e) = among_map_back f (f k) ks h in d.0 (subst (λ i. Among i ks) (own j k (inr on) (inl refl) e) on), distinct_blocks f ks (λ i j h l. own i j (inr h) (inr l)) d.1)
+
+-- where all square columns are one component, the rows and the columns of the square part are the only block
+pub one_block : (a : Matrix) (rows cols : List ℕ) → IsOneComponent a → Lists (IsSquareRow a) rows → Lists (IsSquareCol a) cols → AreBlocksOf a (record { rows = rows; cols = cols } ∷ [])
+one_block a rows cols one in_rows in_cols = record {
+  sound = λ b h. ⊎_elim (λ (e : b ≡ whole). subst (IsBlock a) (sym e) (component_is_block a one.square (λ c. 0) one.some.0 whole one.perfect one.components one.some.1 comp)) (λ no. absurd no) h;
+  complete = λ b block. let (x, square, is) = block_is_component a one.square (λ c. 0) b one.perfect one.components block in inl (component_same a one.square (λ c. 0) 0 b whole is comp);
+  distinct = ((λ h. h), tt);
+  in_order = ((λ d h ne. ⊎_elim (λ (e : d ≡ whole). absurd (ne e)) (λ no. absurd no) h), (λ d h free. ⊎_elim (λ (e : d ≡ whole). subst (λ (b : Block). least_col whole ≤ least_col b) (sym e) (omega arith)) (λ no. absurd no) h), tt);
+}
+  where
+    whole : Block
+    whole = record { rows = rows; cols = cols }
+
+    comp : IsComponent a one.square (λ c. 0) 0 whole
+    comp = record {
+      rows = lists_same (IsSquareRow a) (λ r. (c : ℕ) × Among (r, c) one.square × (0 ≡ 0)) rows
+          (λ r square. let (c, on) = row_pair r one.square (one.perfect.covers_row r square) in (c, on, refl))
+          (λ r h. one.perfect.only_rows r (row_among r h.0 one.square h.1))
+          in_rows;
+      cols = lists_same (IsSquareCol a) (λ c. IsSquareCol a c × (0 ≡ 0)) cols (λ c square. (square, refl)) (λ c h. h.0) in_cols;
+    }
 
 -- Order.
 
@@ -173,12 +195,12 @@ pub ordered_blocks : (t : Layout) (of_rows ks : List ℕ) → IsCondensation t o
 ordered_blocks t of_rows ks g ordered = record {
   sound = λ b on.
       let (k, there, e) = among_map_back (block_of t.rows t.cols) b ks on in
-      let (x, square, is) = g.numbered.used k (range k there) in
-      subst (IsBlock t.matrix) e (component_is_block t.matrix g.numbered.square g.numbered.finished x (block_of t.rows t.cols k) g.numbered.perfect g.numbered.components square (finished_component t.matrix g.pairs g.numbers (length t.cols) x k (block_of t.rows t.cols k) g.numbered square is (comp k (range k there))));
+      let (x, square, is) = g.numbered.columns.used k (range k there) in
+      subst (IsBlock t.matrix) e (component_is_block t.matrix g.numbered.columns.square g.numbered.finished x (block_of t.rows t.cols k) g.numbered.columns.perfect g.numbered.components square (finished_component t.matrix g.pairs g.numbers (length t.cols) x k (block_of t.rows t.cols k) g.numbered square is (comp k (range k there))));
   complete = λ b block.
-      let (x, square, is) = block_is_component t.matrix g.numbered.square g.numbered.finished b g.numbered.perfect g.numbered.components block in
-      let lt = g.numbered.below x square in
-      subst (λ d. Among d (map (block_of t.rows t.cols) ks)) (component_same t.matrix g.numbered.square g.numbered.finished (g.numbered.finished x) (block_of t.rows t.cols (look g.numbers x)) b (finished_component t.matrix g.pairs g.numbers (length t.cols) x (look g.numbers x) (block_of t.rows t.cols (look g.numbers x)) g.numbered square refl (comp (look g.numbers x) lt)) is) (among_map (block_of t.rows t.cols) (look g.numbers x) ks (ordered.all (look g.numbers x) lt));
+      let (x, square, is) = block_is_component t.matrix g.numbered.columns.square g.numbered.finished b g.numbered.columns.perfect g.numbered.components block in
+      let lt = g.numbered.columns.below x square in
+      subst (λ d. Among d (map (block_of t.rows t.cols) ks)) (component_same t.matrix g.numbered.columns.square g.numbered.finished (g.numbered.finished x) (block_of t.rows t.cols (look g.numbers x)) b (finished_component t.matrix g.pairs g.numbers (length t.cols) x (look g.numbers x) (block_of t.rows t.cols (look g.numbers x)) g.numbered square refl (comp (look g.numbers x) lt)) is) (among_map (block_of t.rows t.cols) (look g.numbers x) ks (ordered.all (look g.numbers x) lt));
   distinct = distinct_blocks (block_of t.rows t.cols) ks (λ j k on there e. own j k (range j on) (range k there) e) (follow_distinct t [] ks ordered.follow);
   in_order = follow_order t [] ks own (rises t of_rows g) ordered.follow (λ k lt. inr (ordered.all k lt));
 }
@@ -186,7 +208,7 @@ ordered_blocks t of_rows ks g ordered = record {
     range : (k : ℕ) → Among k ks → k < length t.cols
     range k on = follow_range t [] ks k ordered.follow on
 
-    comp : (k : ℕ) → k < length t.cols → IsComponent t.matrix g.numbered.square (look g.numbers) k (block_of t.rows t.cols k)
+    comp : (k : ℕ) → k < length t.cols → IsComponent t.matrix g.numbered.columns.square (look g.numbers) k (block_of t.rows t.cols k)
     comp k lt = record { rows = rows_component t of_rows g k lt; cols = cols_component t of_rows g k lt }
 
     own : (j k : ℕ) → j < length t.cols → k < length t.cols → block_of t.rows t.cols j ≡ block_of t.rows t.cols k → j ≡ k

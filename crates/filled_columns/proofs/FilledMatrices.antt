@@ -2,10 +2,10 @@
 use Rattle.std.proofs.Common.{◌≡◌, ◌≢◌, ◌⊎◌, ◌↔◌, ◌∙◌, ℕ, zero, suc, ◌+◌, ◌-◌, ◌<◌, ◌≤◌, List, [], ◌∷◌, ◌++◌, length, slice_index, refl, sym, ap, subst, inl, inr, ⊎_elim, arith, eq-eqb, ne_eqb}
 use Rattle.std.proofs.lemmas.List.{length-append}
 use Rattle.bip_defs.specs.EditedMatrix.{with_number, with_place}
-use Rattle.bip_defs.specs.Lists.{Among, AreDistinct}
+use Rattle.bip_defs.specs.Lists.{Among, AreDistinct, Lists}
 use Rattle.bip_defs.specs.Matching.{cols_of}
-use Rattle.bip_defs.specs.Matrix.{IsEntry, Matrix, Place, cols, column}
-use Rattle.bip_defs.proofs.EditLemmas.{changed_cols, with_place_kept, with_place_new, with_place_over}
+use Rattle.bip_defs.specs.Matrix.{AreEntries, IsEntry, Matrix, Place, cols, column}
+use Rattle.bip_defs.proofs.EditLemmas.{changed_cols, with_again, with_place_kept, with_place_new, with_place_over}
 use Rattle.bip_defs.proofs.Sets.{among_either, among_left, among_right, col_among, col_pair, number_among, number_same}
 use Rattle.column_lists.specs.Listed.{AreListed}
 use Rattle.filled_columns.specs.Filled.{LeavesRoom, filled, rows_with, with_first}
@@ -44,6 +44,11 @@ filled_new a (p ∷ m) inside r c (inr h) = filled_new (with_place a p) m (λ s 
 
 pub filled_entries : (a : Matrix) (m : List Place) → AreInside a m → (r c : ℕ) → IsEntry (filled a m) r c ↔ (Among (r, c) m ⊎ IsEntry a r c)
 filled_entries a m inside r c = (filled_over a m r c, λ h. ⊎_elim (λ (k : Among (r, c) m). filled_new a m inside r c k) (λ e. filled_kept a m r c e) h)
+
+-- entries that are there already change nothing, where the columns rise
+pub filled_same : (a : Matrix) (m : List Place) → ((c : ℕ) → Lists (λ r. IsEntry a r c) (column a c)) → AreEntries a m → filled a m ≡ a
+filled_same a [] rising entries = refl
+filled_same a (p ∷ m) rising entries = ap (λ (b : Matrix). filled b m) (with_again a p (rising p.1) (entries p.0 p.1 (inl refl))) ∙ filled_same a m rising (λ r c h. entries r c (inr h))
 
 -- The rows that are paired with a column.
 

@@ -1,8 +1,8 @@
 //! Laws on a matrix that is filled with pairs.
 
 ghost use Rattle.std.specs.Prelude.{◌≡◌, ◌↔◌, ◌⊎◌, ◌<◌, ℕ, List};
-ghost use Rattle.bip_defs.specs.Lists.{Among};
-ghost use Rattle.bip_defs.specs.Matrix.{IsEntry, Matrix, Place, cols};
+ghost use Rattle.bip_defs.specs.Lists.{Among, Lists};
+ghost use Rattle.bip_defs.specs.Matrix.{AreEntries, IsEntry, Matrix, Place, cols, column};
 ghost use Rattle.bip_defs.specs.Parts.{ArePartsOf};
 ghost use Rattle.bip_graph.specs.Matching.{IsMaximumOf, Pairing};
 ghost use Rattle.filled_columns.specs.Filled.{IsFullPairing, all_square, filled};
@@ -24,4 +24,12 @@ pub fn filled_matrix_is_full()
         → IsMaximumOf (filled a m.pairs) m }
     ensures parts { (a : Matrix) (m : Pairing) → IsFullPairing a m
         → ArePartsOf (filled a m.pairs) (all_square (Matrix.rows a)) }
+{}
+
+/// A matrix whose columns list their rows rising is the same after it is filled with entries of
+/// its own.
+pub fn filled_with_entries()
+    ensures { (a : Matrix) (m : List Place)
+        → ((c : ℕ) → Lists (λ r. IsEntry a r c) (column a c))
+        → AreEntries a m → filled a m ≡ a }
 {}

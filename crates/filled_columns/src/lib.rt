@@ -8,5 +8,5 @@ mod parts;
 
 pub use complete::completed;
 pub use fill::{FilledColumns, OneMore};
-pub use laws::{filled_entries, filled_matrix_is_full};
+pub use laws::{filled_entries, filled_matrix_is_full, filled_with_entries};
 pub use parts::full_parts;

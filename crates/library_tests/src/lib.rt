@@ -9,17 +9,23 @@ mod block_orders;
 #[cfg(test)]
 mod diagonals;
 #[cfg(test)]
+mod edits;
+#[cfg(test)]
 mod lengths;
 #[cfg(test)]
 mod lists;
 #[cfg(test)]
 mod matrices;
 #[cfg(test)]
+mod paired_orders;
+#[cfg(test)]
 mod permutations;
 #[cfg(test)]
 mod refusals;
 #[cfg(test)]
 mod small;
+#[cfg(test)]
+mod warm_starts;
 #[cfg(test)]
 mod weighted_columns;
 #[cfg(test)]

@@ -1,6 +1,6 @@
 -- How a search begins, and what it has found at its end.
 use Rattle.std.proofs.Common.{◌≡◌, ◌≢◌, ◌∙◌, ℕ, zero, suc, ◌+◌, ◌-◌, ◌*◌, ◌<◌, ◌≤◌, List, [], ◌∷◌, set, length, get_or, replicate, sum_by, sym, ap, subst, ⊎_elim, arith, length-set, get_or-set_same, get_or-set_other}
-use Rattle.std.proofs.lemmas.List.{get_or-replicate, get_or_default, get_or_past, length-replicate}
+use Rattle.std.proofs.lemmas.List.{get_or-replicate, get_or_past, length-replicate}
 use Rattle.std.proofs.lemmas.List.Folds.{sum_by-replicate}
 use Rattle.std.proofs.lemmas.List.Sums.{sum_by-set}
 use Rattle.bip_defs.specs.Lists.{Among, IsRising, Lists, numbers_of}
@@ -9,11 +9,13 @@ use Rattle.bip_defs.specs.Matrix.{IsEntry, Matrix, Place, cols, upto}
 use Rattle.bip_defs.specs.Parts.{IsSquareCol, IsSquareRow}
 use Rattle.bip_defs.specs.Walks.{Walk}
 use Rattle.bip_defs.proofs.Sets.{among_at, below_each_sound, col_among, col_pair, few_distinct, number_among, number_same, one_row, pigeonhole, place_among, rising_distinct, row_among, row_pair, upto_complete, upto_length, upto_rising, upto_sound}
-use Rattle.bip_defs.proofs.Square.{in_rows, in_rows_among, in_rows_back, square_pairs_perfect, square_row_matched}
+use Rattle.bip_defs.proofs.Square.{in_rows, in_rows_among, in_rows_back, square_col_mate, square_pairs_perfect, square_row_matched}
 use Rattle.bip_graph.specs.Matching.{none}
 use Rattle.column_lists.specs.Listed.{AreListed}
+use Rattle.square_components.specs.Answers.{IsOneComponent}
 use Rattle.square_components.specs.Found.{IsFound, col_in, finished_at, row_in}
 use Rattle.square_components.specs.Numbers.{look}
+use Rattle.square_components.specs.Part.{IsSquarePart}
 use Rattle.square_components.specs.Stacks.{IsDepthFirst, IsGraph, PathState, one_free}
 use Rattle.square_components.specs.Steps.{AreUnmet, IsBeginning}
 use Rattle.square_components.proofs.Changes.{rising_few}
@@ -23,12 +25,9 @@ use Rattle.square_components.proofs.SearchLemmas.{path_empty}
 
 -- Rows that are not met.
 
--- what a loop over a list reads is one of the list
-pub item_among : (xs : List ℕ) (k q r : ℕ) → q ≡ r → r ≡ get_or xs k r → k < length xs → Among q xs
-item_among xs k q r e f lt = subst (λ y. Among y xs) (sym (e ∙ f)) (among_at xs k r lt)
-
-pub item_at : (xs : List ℕ) (k q r : ℕ) → q ≡ r → r ≡ get_or xs k r → k < length xs → q ≡ get_or xs k 0
-item_at xs k q r e f lt = e ∙ f ∙ get_or_default xs k r 0 lt
+-- what stands at a place of a list is one of it
+pub at_among : (xs : List ℕ) (k q : ℕ) → q ≡ get_or xs k 0 → k < length xs → Among q xs
+at_among xs k q e lt = subst (λ y. Among y xs) (sym e) (among_at xs k 0 lt)
 
 -- as many rising numbers as there are numbers below n are all of these
 pub all_of_them : (xs : List ℕ) (n r : ℕ) → IsRising xs → ((x : ℕ) → Among x xs → x < n) → length xs ≡ n → r < n → Among r xs
@@ -231,3 +230,21 @@ ends a line pairs s max k empty met small = record {
         let (c, sc, e) = used x (omega (arith, lt)) in
         let in_range = sc.0 in
         (c, upto_complete 0 (cols a) c (omega arith) (omega (arith, in_range)), e)
+
+-- the mate of the column at a place of a square part is one of its rows
+pub part_row : (a : Matrix) (rows listed : List ℕ) (pairs : List Place) (end k col row : ℕ) → IsSquarePart a rows listed pairs → k < end → end ≡ length rows → col ≡ get_or listed k 0 → Among (row, col) pairs → IsSquareRow a row
+part_row a rows listed pairs end k col row part lt long at pair =
+    let same = part.same in
+    square_col_mate a pairs row col part.maximum pair (part.square_cols.sound col (at_among listed k col at (omega (arith, lt, long, same))))
+
+-- where one component was found, it has all square columns
+pub one_found : (a : Matrix) (pairs : List Place) (state : List ℕ) (count : ℕ) → IsFound a pairs state count → count ≡ 1 → IsOneComponent a
+one_found a pairs state count found one = record {
+  square = found.square;
+  perfect = found.perfect;
+  components = record {
+    joined = λ c d here there e. found.components.joined c d here there (let x = found.below c here in let y = found.below d there in omega (arith, x, y, one));
+    falling = λ r c d here entry pair. omega arith;
+  };
+  some = let (c, here, e) = found.used 0 (omega (arith, one)) in (c, here);
+}

@@ -4,6 +4,7 @@ pub mod Exploring
 pub mod GraphLemmas
 pub mod LastComponent
 pub mod NumberingLemmas
+pub mod PartLemmas
 pub mod PathLemmas
 pub mod RenumberingLemmas
 pub mod SearchLemmas

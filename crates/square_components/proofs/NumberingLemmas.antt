@@ -3,15 +3,16 @@ use Rattle.std.proofs.Common.{◌≡◌, ◌≢◌, ◌⊎◌, ◌∙◌, ◌==�
 use Rattle.std.proofs.lemmas.Bool.Decides.{eqb_tells}
 use Rattle.std.proofs.lemmas.List.{length-map, length-set, length-replicate, get_or-replicate, get_or_default, get_or_past}
 use Rattle.bip_defs.specs.Lists.{Among, AreDistinct, IsRising, Lists}
-use Rattle.bip_defs.specs.Matching.{IsMatching, cols_of, rows_of}
+use Rattle.bip_defs.specs.Matching.{IsMatching, IsMaximum, cols_of, rows_of}
 use Rattle.bip_defs.specs.Matrix.{Matrix, Place, cols, upto}
 use Rattle.bip_defs.specs.Parts.{IsSquareCol}
 use Rattle.bip_defs.proofs.Queues.{distinct_at}
 use Rattle.bip_defs.proofs.Sets.{among_at, col_among, col_pair, entry_col, few_distinct, number_among, number_at, number_same, one_col, place_among, rising_distinct, rising_order, row_among, row_pair, upto_complete, upto_length}
-use Rattle.bip_graph.specs.Matching.{IsMaximumOf, Pairing, none}
+use Rattle.bip_graph.specs.Matching.{none}
 use Rattle.square_components.specs.Found.{IsFound, finished_at, row_in}
 use Rattle.square_components.specs.Groups.{AreOfMates}
 use Rattle.square_components.specs.Numbers.{AreNumbered, FallAlong, look}
+use Rattle.square_components.specs.Part.{IsSquarePart}
 use Rattle.square_components.specs.Renumbering.{AreNumberedByLeast, AreRenumbered, Gives}
 use Rattle.square_components.proofs.GraphLemmas.{less, row_in_is}
 use Rattle.square_components.proofs.RenumberingLemmas.{AreGiven, given_all, given_step}
@@ -26,25 +27,25 @@ pub record HaveMates (pairs : List Place) (listed : List ℕ) (rows width : ℕ)
   pub cols_in : (c : ℕ) → Among c listed → c < width
   pub few : length listed ≤ width
 
-pub have_mates : (a : Matrix) (m : Pairing) (listed state : List ℕ) (count : ℕ) → IsMaximumOf a m → Lists (IsSquareCol a) listed → IsFound a m.pairs state count → HaveMates m.pairs listed (length state) (cols a)
-have_mates a m listed state count max ls found = record {
+pub have_mates : (a : Matrix) (pairs : List Place) (listed state : List ℕ) (count : ℕ) → IsMaximum a pairs → Lists (IsSquareCol a) listed → IsFound a pairs state count → HaveMates pairs listed (length state) (cols a)
+have_mates a pairs listed state count max ls found = record {
   rows_differ = differ.rows_differ;
   cols_differ = differ.cols_differ;
   rising = ls.rising;
   mates = mate;
-  rows_in = λ c h. let inside = (found.perfect.only_rows (row_in m.pairs c) (row_among (row_in m.pairs c) c found.square (found.all_pairs (row_in m.pairs c) c (mate c h) (ls.sound c h)))).0 in let long = found.long in omega (arith, inside, long);
+  rows_in = λ c h. let inside = (found.perfect.only_rows (row_in pairs c) (row_among (row_in pairs c) c found.square (found.all_pairs (row_in pairs c) c (mate c h) (ls.sound c h)))).0 in let long = found.long in omega (arith, inside, long);
   cols_in = λ c h. (ls.sound c h).0;
   few = subst (λ n. length listed ≤ n) (upto_length 0 (cols a)) (few_distinct listed (upto (cols a)) (rising_distinct listed ls.rising) (λ c h. upto_complete 0 (cols a) c (omega arith) (let lt = (ls.sound c h).0 in omega (arith, lt))));
 }
   where
-    differ : IsMatching a m.pairs
-    differ = max.matching.matching
+    differ : IsMatching a pairs
+    differ = max.matching
 
-    mate : (c : ℕ) → Among c listed → Among (row_in m.pairs c, c) m.pairs
+    mate : (c : ℕ) → Among c listed → Among (row_in pairs c, c) pairs
     mate c h =
         let (r, is) = col_pair c found.square (found.perfect.covers_col c (ls.sound c h)) in
         let pair = found.are_pairs r c is in
-        subst (λ x. Among (x, c) m.pairs) (sym (row_in_is m.pairs r c differ.cols_differ pair)) pair
+        subst (λ x. Among (x, c) pairs) (sym (row_in_is pairs r c differ.cols_differ pair)) pair
 
 -- of the first k columns and their mates both have the same number; others are untouched
 pub record AreWritten (pairs : List Place) (listed state : List ℕ) (width k : ℕ) (of_rows of_cols : List ℕ) : Type 0 where
@@ -117,20 +118,25 @@ pub record IsNext (pairs : List Place) (listed : List ℕ) (k row col : ℕ) : T
   pub col_is : col ≡ get_or listed k 0
   pub row_is : row ≡ row_in pairs (get_or listed k 0)
 
-pub is_next : (pairs : List Place) (listed : List ℕ) (rows width k row col item mate : ℕ) → HaveMates pairs listed rows width → k < length listed → col ≡ item → item ≡ get_or listed k item → row ≡ mate → Among (mate, col) pairs → IsNext pairs listed k row col
-is_next pairs listed rows width k row col item mate h inside view e is pair = record {
+pub is_next : (pairs : List Place) (listed : List ℕ) (rows width k row col mate item : ℕ) → HaveMates pairs listed rows width → k < length listed → col ≡ item → item ≡ get_or listed k 0 → row ≡ mate → Among (mate, item) pairs → IsNext pairs listed k row col
+is_next pairs listed rows width k row col mate item h inside view at is pair = record {
   inside = inside;
-  col_is = at;
-  row_is = is ∙ sym (row_in_is pairs mate col h.cols_differ pair) ∙ ap (row_in pairs) at;
+  col_is = view ∙ at;
+  row_is = is ∙ sym (row_in_is pairs mate item h.cols_differ pair) ∙ ap (row_in pairs) at;
 }
-  where
-    at : col ≡ get_or listed k 0
-    at = view ∙ e ∙ get_or_default listed k item 0 inside
+
+-- the same over a square part, and the mates of its columns
+pub next_of_part : (a : Matrix) (rows listed : List ℕ) (pairs : List Place) (state : List ℕ) (count end k row col mate item : ℕ) → IsSquarePart a rows listed pairs → IsFound a pairs state count → k < end → end ≡ length rows → col ≡ item → item ≡ get_or listed k 0 → row ≡ mate → Among (mate, item) pairs
+    → HaveMates pairs listed (length state) (cols a) × IsNext pairs listed k row col
+next_of_part a rows listed pairs state count end k row col mate item part found lt long view at is pair =
+    let h = have_mates a pairs listed state count part.maximum part.square_cols found in
+    let same = part.same in
+    (h, is_next pairs listed (length state) (cols a) k row col mate item h (omega (arith, lt, long, same)) view at is pair)
 
 -- it has a mate
-pub next_matched : (pairs : List Place) (listed : List ℕ) (rows width k col item : ℕ) → HaveMates pairs listed rows width → k < length listed → col ≡ item → item ≡ get_or listed k item → Among col (cols_of pairs)
-next_matched pairs listed rows width k col item h inside view e =
-    subst (λ c. Among c (cols_of pairs)) (sym (view ∙ e ∙ get_or_default listed k item 0 inside)) (col_among (row_in pairs (get_or listed k 0)) (get_or listed k 0) pairs (h.mates (get_or listed k 0) (among_at listed k 0 inside)))
+pub next_matched : (pairs : List Place) (listed : List ℕ) (rows width k col : ℕ) → HaveMates pairs listed rows width → k < length listed → col ≡ get_or listed k 0 → Among col (cols_of pairs)
+next_matched pairs listed rows width k col h inside at =
+    subst (λ c. Among c (cols_of pairs)) (sym at) (col_among (row_in pairs (get_or listed k 0)) (get_or listed k 0) pairs (h.mates (get_or listed k 0) (among_at listed k 0 inside)))
 
 pub next_row_in : (pairs : List Place) (listed : List ℕ) (rows width k row col : ℕ) → HaveMates pairs listed rows width → IsNext pairs listed k row col → row < rows
 next_row_in pairs listed rows width k row col h n = subst (λ r. r < rows) (sym n.row_is) (h.rows_in (get_or listed k 0) (among_at listed k 0 n.inside))
@@ -168,14 +174,14 @@ none_written pairs listed state width of_rows of_cols rows cols = record {
 -- When all are written.
 
 -- rows of other parts have off number
-pub row_out : (a : Matrix) (m : Pairing) (listed state : List ℕ) (count : ℕ) (of_rows of_cols : List ℕ) (r : ℕ) → (max : IsMaximumOf a m) → (ls : Lists (IsSquareCol a) listed) → (found : IsFound a m.pairs state count)
-    → AreWritten m.pairs listed state (cols a) (length listed) of_rows of_cols → ¬ Among r (rows_of found.square) → look of_rows r ≡ none
-row_out a m listed state count of_rows of_cols r max ls found w off =
-    let h = have_mates a m listed state count max ls found in
+pub row_out : (a : Matrix) (pairs : List Place) (listed state : List ℕ) (count : ℕ) (of_rows of_cols : List ℕ) (r : ℕ) → (max : IsMaximum a pairs) → (ls : Lists (IsSquareCol a) listed) → (found : IsFound a pairs state count)
+    → AreWritten pairs listed state (cols a) (length listed) of_rows of_cols → ¬ Among r (rows_of found.square) → look of_rows r ≡ none
+row_out a pairs listed state count of_rows of_cols r max ls found w off =
+    let h = have_mates a pairs listed state count max ls found in
     w.other_rows r (λ i lt e.
     let here = among_at listed i 0 lt in
-    let pair = found.all_pairs (row_in m.pairs (get_or listed i 0)) (get_or listed i 0) (h.mates (get_or listed i 0) here) (ls.sound (get_or listed i 0) here) in
-    off (subst (λ x. Among x (rows_of found.square)) (sym e) (row_among (row_in m.pairs (get_or listed i 0)) (get_or listed i 0) found.square pair)))
+    let pair = found.all_pairs (row_in pairs (get_or listed i 0)) (get_or listed i 0) (h.mates (get_or listed i 0) here) (ls.sound (get_or listed i 0) here) in
+    off (subst (λ x. Among x (rows_of found.square)) (sym e) (row_among (row_in pairs (get_or listed i 0)) (get_or listed i 0) found.square pair)))
     ∙ found.outside r (λ sq. off (found.perfect.covers_row r sq))
 
 -- columns of other parts too
@@ -184,38 +190,38 @@ pub col_out : (a : Matrix) (pairs : List Place) (listed state : List ℕ) (of_ro
 col_out a pairs listed state of_rows of_cols c ls w off = w.other_cols c (λ i lt e. off (ls.sound c (subst (λ x. Among x listed) (sym e) (among_at listed i 0 lt))))
 
 -- a row of the square part has the number of its mate
-pub row_in_part : (a : Matrix) (m : Pairing) (listed state : List ℕ) (count : ℕ) (of_rows of_cols : List ℕ) (r d : ℕ) → (max : IsMaximumOf a m) → Lists (IsSquareCol a) listed → (found : IsFound a m.pairs state count)
-    → AreWritten m.pairs listed state (cols a) (length listed) of_rows of_cols → Among (r, d) found.square → look of_rows r ≡ look of_cols d
-row_in_part a m listed state count of_rows of_cols r d max ls found w pair =
+pub row_in_part : (a : Matrix) (pairs : List Place) (listed state : List ℕ) (count : ℕ) (of_rows of_cols : List ℕ) (r d : ℕ) → (max : IsMaximum a pairs) → Lists (IsSquareCol a) listed → (found : IsFound a pairs state count)
+    → AreWritten pairs listed state (cols a) (length listed) of_rows of_cols → Among (r, d) found.square → look of_rows r ≡ look of_cols d
+row_in_part a pairs listed state count of_rows of_cols r d max ls found w pair =
     let (i, lt, at) = place_among d 0 listed (ls.complete d (found.perfect.only_cols d (col_among r d found.square pair))) in
-    let mate = row_in_is m.pairs r d max.matching.matching.cols_differ (found.are_pairs r d pair) in
-    sym (ap (look of_rows) (ap (row_in m.pairs) at ∙ mate)) ∙ w.same i lt ∙ ap (look of_cols) at
+    let mate = row_in_is pairs r d max.matching.cols_differ (found.are_pairs r d pair) in
+    sym (ap (look of_rows) (ap (row_in pairs) at ∙ mate)) ∙ w.same i lt ∙ ap (look of_cols) at
 
-pub written_mates : (a : Matrix) (m : Pairing) (listed state : List ℕ) (count : ℕ) (of_rows of_cols : List ℕ) → IsMaximumOf a m → Lists (IsSquareCol a) listed → IsFound a m.pairs state count
-    → AreWritten m.pairs listed state (cols a) (length listed) of_rows of_cols → AreOfMates m.pairs of_cols m.rows of_rows
-written_mates a m listed state count of_rows of_cols max ls found w = record {
-  long = w.long_rows ∙ found.long ∙ sym max.matching.rows;
+pub written_mates : (a : Matrix) (pairs : List Place) (listed state : List ℕ) (count : ℕ) (of_rows of_cols : List ℕ) → IsMaximum a pairs → Lists (IsSquareCol a) listed → IsFound a pairs state count
+    → AreWritten pairs listed state (cols a) (length listed) of_rows of_cols → AreOfMates pairs of_cols a.rows of_rows
+written_mates a pairs listed state count of_rows of_cols max ls found w = record {
+  long = w.long_rows ∙ found.long;
   each = λ r lt. ⊎_elim
       (λ (h : Among r (rows_of found.square)).
       let (d, pair) = row_pair r found.square h in
       let over = found.are_pairs r d pair in
-      inl (d, over, read_row r lt ∙ row_in_part a m listed state count of_rows of_cols r d max ls found w pair ∙ sym (read_col r d over)))
+      inl (d, over, read_row r lt ∙ row_in_part a pairs listed state count of_rows of_cols r d max ls found w pair ∙ sym (read_col r d over)))
       (λ (off : ¬ Among r (rows_of found.square)).
-      let out : get_or of_rows r 0 ≡ none = read_row r lt ∙ row_out a m listed state count of_rows of_cols r max ls found w off in
+      let out : get_or of_rows r 0 ≡ none = read_row r lt ∙ row_out a pairs listed state count of_rows of_cols r max ls found w off in
       ⊎_elim
-      (λ (h : Among r (rows_of m.pairs)).
-      let (c, pair) = row_pair r m.pairs h in
-      inl (c, pair, out ∙ sym (read_col r c pair ∙ col_out a m.pairs listed state of_rows of_cols c ls w (λ sq. off (row_among r c found.square (found.all_pairs r c pair sq))))))
-      (λ (free : ¬ Among r (rows_of m.pairs)). inr (free, out))
-      (number_among r (rows_of m.pairs)))
+      (λ (h : Among r (rows_of pairs)).
+      let (c, pair) = row_pair r pairs h in
+      inl (c, pair, out ∙ sym (read_col r c pair ∙ col_out a pairs listed state of_rows of_cols c ls w (λ sq. off (row_among r c found.square (found.all_pairs r c pair sq))))))
+      (λ (free : ¬ Among r (rows_of pairs)). inr (free, out))
+      (number_among r (rows_of pairs)))
       (number_among r (rows_of found.square));
 }
   where
-    read_row : (r : ℕ) → r < m.rows → get_or of_rows r 0 ≡ look of_rows r
-    read_row r lt = get_or_default of_rows r 0 none (let long = w.long_rows in let all = found.long in let rows = max.matching.rows in omega (arith, lt, long, all, rows))
+    read_row : (r : ℕ) → r < a.rows → get_or of_rows r 0 ≡ look of_rows r
+    read_row r lt = get_or_default of_rows r 0 none (let long = w.long_rows in let all = found.long in omega (arith, lt, long, all))
 
-    read_col : (r c : ℕ) → Among (r, c) m.pairs → get_or of_cols c 0 ≡ look of_cols c
-    read_col r c pair = get_or_default of_cols c 0 none (let lt = entry_col a r c (max.matching.matching.entries r c pair) in let long = w.long_cols in omega (arith, lt, long))
+    read_col : (r c : ℕ) → Among (r, c) pairs → get_or of_cols c 0 ≡ look of_cols c
+    read_col r c pair = get_or_default of_cols c 0 none (let lt = entry_col a r c (max.matching.entries r c pair) in let long = w.long_cols in omega (arith, lt, long))
 
 col_number : (listed of_cols : List ℕ) (c : ℕ) (f : ℕ → ℕ) → Among c listed → ((i : ℕ) → i < length listed → look of_cols (get_or listed i 0) ≡ f (get_or listed i 0)) → look of_cols c ≡ f c
 col_number listed of_cols c f here numbers =
@@ -223,16 +229,22 @@ col_number listed of_cols c f here numbers =
     sym (ap (look of_cols) at) ∙ numbers i lt ∙ ap f at
 
 -- the numbers in which the search finished them
-pub written_numbered : (a : Matrix) (m : Pairing) (listed state : List ℕ) (count : ℕ) (of_rows of_cols : List ℕ) → Lists (IsSquareCol a) listed → IsFound a m.pairs state count
-    → AreWritten m.pairs listed state (cols a) (length listed) of_rows of_cols
-    → ((i : ℕ) → i < length listed → look of_cols (get_or listed i 0) ≡ finished_at m.pairs state (get_or listed i 0))
-    → AreNumbered a m.pairs of_cols count
-written_numbered a m listed state count of_rows of_cols ls found w numbers = record {
-  long = w.long_cols;
-  square = found.square;
-  perfect = found.perfect;
-  are_pairs = found.are_pairs;
-  all_pairs = found.all_pairs;
+pub written_numbered : (a : Matrix) (pairs : List Place) (listed state : List ℕ) (count : ℕ) (of_rows of_cols : List ℕ) → Lists (IsSquareCol a) listed → IsFound a pairs state count
+    → AreWritten pairs listed state (cols a) (length listed) of_rows of_cols
+    → ((i : ℕ) → i < length listed → look of_cols (get_or listed i 0) ≡ finished_at pairs state (get_or listed i 0))
+    → AreNumbered a pairs of_cols count
+written_numbered a pairs listed state count of_rows of_cols ls found w numbers = record {
+  columns = record {
+    long = w.long_cols;
+    square = found.square;
+    perfect = found.perfect;
+    are_pairs = found.are_pairs;
+    all_pairs = found.all_pairs;
+    below = λ c here. let lt = found.below c here in let is = now c here in omega (arith, lt, is);
+    used = λ k lt. let (c, here, is) = found.used k lt in (c, here, now c here ∙ is);
+    outside = λ c off. col_out a pairs listed state of_rows of_cols c ls w off;
+    few = found.few;
+  };
   components = record {
     joined = λ c d here there e. found.components.joined c d here there (sym (now c here) ∙ e ∙ now d there);
     falling = λ r c d here entry pair.
@@ -241,33 +253,29 @@ written_numbered a m listed state count of_rows of_cols ls found w numbers = rec
         let at = now d (found.perfect.only_cols d (col_among r d found.square pair)) in
         omega (arith, le, is, at);
   };
-  below = λ c here. let lt = found.below c here in let is = now c here in omega (arith, lt, is);
-  used = λ k lt. let (c, here, is) = found.used k lt in (c, here, now c here ∙ is);
-  outside = λ c off. col_out a m.pairs listed state of_rows of_cols c ls w off;
-  few = found.few;
 }
   where
-    now : (c : ℕ) → IsSquareCol a c → look of_cols c ≡ finished_at m.pairs state c
-    now c here = col_number listed of_cols c (finished_at m.pairs state) (ls.complete c here) numbers
+    now : (c : ℕ) → IsSquareCol a c → look of_cols c ≡ finished_at pairs state c
+    now c here = col_number listed of_cols c (finished_at pairs state) (ls.complete c here) numbers
 
 -- numbers that are those of the search fall along entries
-pub written_falls : (a : Matrix) (m : Pairing) (listed state : List ℕ) (count : ℕ) (of_rows of_cols : List ℕ) → IsMaximumOf a m → Lists (IsSquareCol a) listed → IsFound a m.pairs state count
-    → AreWritten m.pairs listed state (cols a) (length listed) of_rows of_cols
-    → ((i : ℕ) → i < length listed → look of_cols (get_or listed i 0) ≡ finished_at m.pairs state (get_or listed i 0))
+pub written_falls : (a : Matrix) (pairs : List Place) (listed state : List ℕ) (count : ℕ) (of_rows of_cols : List ℕ) → IsMaximum a pairs → Lists (IsSquareCol a) listed → IsFound a pairs state count
+    → AreWritten pairs listed state (cols a) (length listed) of_rows of_cols
+    → ((i : ℕ) → i < length listed → look of_cols (get_or listed i 0) ≡ finished_at pairs state (get_or listed i 0))
     → FallAlong a of_rows of_cols
-written_falls a m listed state count of_rows of_cols max ls found w numbers r c here entry some = ⊎_elim
+written_falls a pairs listed state count of_rows of_cols max ls found w numbers r c here entry some = ⊎_elim
     (λ (h : Among r (rows_of found.square)).
     let (d, pair) = row_pair r found.square h in
     let le = found.components.falling r c d here entry pair in
-    let own = row_in_part a m listed state count of_rows of_cols r d max ls found w pair in
+    let own = row_in_part a pairs listed state count of_rows of_cols r d max ls found w pair in
     let is = now c here in
     let at = now d (found.perfect.only_cols d (col_among r d found.square pair)) in
     omega (arith, le, own, is, at, read))
-    (λ (off : ¬ Among r (rows_of found.square)). absurd (some (read ∙ row_out a m listed state count of_rows of_cols r max ls found w off)))
+    (λ (off : ¬ Among r (rows_of found.square)). absurd (some (read ∙ row_out a pairs listed state count of_rows of_cols r max ls found w off)))
     (number_among r (rows_of found.square))
   where
-    now : (c : ℕ) → IsSquareCol a c → look of_cols c ≡ finished_at m.pairs state c
-    now c here = col_number listed of_cols c (finished_at m.pairs state) (ls.complete c here) numbers
+    now : (c : ℕ) → IsSquareCol a c → look of_cols c ≡ finished_at pairs state c
+    now c here = col_number listed of_cols c (finished_at pairs state) (ls.complete c here) numbers
 
     read : get_or of_rows r 0 ≡ look of_rows r
     read = get_or_default of_rows r 0 none (let lt = entry.0 in let long = w.long_rows in let all = found.long in omega (arith, lt, long, all))
@@ -310,8 +318,8 @@ none_labelled f listed total of_cols anew e = record {
     unset i lt = ap (λ xs. get_or xs i 0) e ∙ get_or-replicate total i none 0 lt
 
 -- the next column's number is to be given anew
-pub next_finished : (a : Matrix) (m : Pairing) (listed state : List ℕ) (count k : ℕ) → Lists (IsSquareCol a) listed → IsFound a m.pairs state count → k < length listed → finished_at m.pairs state (get_or listed k 0) < count
-next_finished a m listed state count k ls found inside = found.below (get_or listed k 0) (ls.sound (get_or listed k 0) (among_at listed k 0 inside))
+pub next_finished : (a : Matrix) (pairs : List Place) (listed state : List ℕ) (count k : ℕ) → Lists (IsSquareCol a) listed → IsFound a pairs state count → k < length listed → finished_at pairs state (get_or listed k 0) < count
+next_finished a pairs listed state count k ls found inside = found.below (get_or listed k 0) (ls.sound (get_or listed k 0) (among_at listed k 0 inside))
 
 pub next_labelled : (pairs : List Place) (listed state : List ℕ) (width k : ℕ) (of_rows of_cols : List ℕ) (row col : ℕ) (f : ℕ → ℕ) (total : ℕ) (anew : List ℕ) (next old number : ℕ) (anew2 : List ℕ) (next2 : ℕ) → HaveMates pairs listed (length state) width → AreWritten pairs listed state width k of_rows of_cols → IsNext pairs listed k row col
     → width ≤ none → old ≡ f (get_or listed k 0) → old < total → AreLabelled f listed total k of_cols anew next → Gives old anew next number anew2 next2
@@ -336,16 +344,27 @@ next_labelled pairs listed state width k of_rows of_cols row col f total anew ne
 pub labelled_few : (f : ℕ → ℕ) (listed : List ℕ) (total k : ℕ) (of_cols anew : List ℕ) (next width : ℕ) → AreLabelled f listed total k of_cols anew next → k < length listed → length listed ≤ width → width ≤ none → next < none
 labelled_few f listed total k of_cols anew next width s inside few small = let le = s.given.few in omega (arith, le, inside, few, small)
 
-pub written_least : (a : Matrix) (m : Pairing) (listed state : List ℕ) (count : ℕ) (of_rows of_cols anew : List ℕ) (n : ℕ) → IsMaximumOf a m → Lists (IsSquareCol a) listed → IsFound a m.pairs state count
-    → AreWritten m.pairs listed state (cols a) (length listed) of_rows of_cols → AreLabelled (finished_at m.pairs state) listed count (length listed) of_cols anew n
-    → AreNumberedByLeast a m.pairs of_cols n
-written_least a m listed state count of_rows of_cols anew n max ls found w s = record {
-  long = w.long_cols;
-  square = found.square;
-  perfect = found.perfect;
-  are_pairs = found.are_pairs;
-  all_pairs = found.all_pairs;
-  finished = finished_at m.pairs state;
+pub written_least : (a : Matrix) (pairs : List Place) (listed state : List ℕ) (count : ℕ) (of_rows of_cols anew : List ℕ) (n : ℕ) → IsMaximum a pairs → Lists (IsSquareCol a) listed → IsFound a pairs state count
+    → AreWritten pairs listed state (cols a) (length listed) of_rows of_cols → AreLabelled (finished_at pairs state) listed count (length listed) of_cols anew n
+    → AreNumberedByLeast a pairs of_cols n
+written_least a pairs listed state count of_rows of_cols anew n max ls found w s = record {
+  columns = record {
+    long = w.long_cols;
+    square = found.square;
+    perfect = found.perfect;
+    are_pairs = found.are_pairs;
+    all_pairs = found.all_pairs;
+    below = λ c here.
+        let (i, it, ia) = place_among c 0 listed (ls.complete c here) in
+        subst (λ x. x < n) (sym (now i c it ia)) (all.below i (in_old i it) (low i it));
+    used = λ k lt.
+        let (i, inside, below, is) = all.used k lt in
+        let it = in_listed i inside in
+        (get_or listed i 0, ls.sound (get_or listed i 0) (among_at listed i 0 it), now i (get_or listed i 0) it refl ∙ is);
+    outside = λ c off. col_out a pairs listed state of_rows of_cols c ls w off;
+    few = let le = all.few in let few = mates.few in omega (arith, le, few, long);
+  };
+  finished = finished_at pairs state;
   components = found.components;
   same = λ c d here there.
       let (i, it, ia) = place_among c 0 listed (ls.complete c here) in
@@ -354,15 +373,6 @@ written_least a m listed state count of_rows of_cols anew n max ls found w s = r
         (λ e. sym (was i c it ia) ∙ both.0 (sym (now i c it ia) ∙ e ∙ now j d jt ja) ∙ was j d jt ja),
         (λ e. now i c it ia ∙ both.1 (was i c it ia ∙ e ∙ sym (was j d jt ja)) ∙ sym (now j d jt ja)),
       );
-  below = λ c here.
-      let (i, it, ia) = place_among c 0 listed (ls.complete c here) in
-      subst (λ x. x < n) (sym (now i c it ia)) (all.below i (in_old i it) (low i it));
-  used = λ k lt.
-      let (i, inside, below, is) = all.used k lt in
-      let it = in_listed i inside in
-      (get_or listed i 0, ls.sound (get_or listed i 0) (among_at listed i 0 it), now i (get_or listed i 0) it refl ∙ is);
-  outside = λ c off. col_out a m.pairs listed state of_rows of_cols c ls w off;
-  few = let le = all.few in let few = mates.few in omega (arith, le, few, long);
   earlier = λ c k here lt.
       let (i, it, ia) = place_among c 0 listed (ls.complete c here) in
       let (j, before, below, is) = all.earlier i k (in_old i it) (low i it) (subst (λ x. k < x) (now i c it ia) lt) in
@@ -372,26 +382,26 @@ written_least a m listed state count of_rows of_cols anew n max ls found w s = r
       (get_or listed j 0, omega (arith, order, differ, ia), ls.sound (get_or listed j 0) (among_at listed j 0 jt), now j (get_or listed j 0) jt refl ∙ is);
 }
   where
-    mates : HaveMates m.pairs listed (length state) (cols a)
-    mates = have_mates a m listed state count max ls found
+    mates : HaveMates pairs listed (length state) (cols a)
+    mates = have_mates a pairs listed state count max ls found
 
-    long : length (map (finished_at m.pairs state) listed) ≡ length listed
-    long = length-map listed (finished_at m.pairs state)
+    long : length (map (finished_at pairs state) listed) ≡ length listed
+    long = length-map listed (finished_at pairs state)
 
-    all : AreRenumbered (map (finished_at m.pairs state) listed) count s.labels n
-    all = given_all (map (finished_at m.pairs state) listed) count (length listed) s.labels anew n s.given (sym long) (let few = mates.few in let small = found.few_cols in omega (arith, few, small, long))
+    all : AreRenumbered (map (finished_at pairs state) listed) count s.labels n
+    all = given_all (map (finished_at pairs state) listed) count (length listed) s.labels anew n s.given (sym long) (let few = mates.few in let small = found.few_cols in omega (arith, few, small, long))
 
-    in_old : (i : ℕ) → i < length listed → i < length (map (finished_at m.pairs state) listed)
+    in_old : (i : ℕ) → i < length listed → i < length (map (finished_at pairs state) listed)
     in_old i lt = omega (arith, lt, long)
 
-    in_listed : (i : ℕ) → i < length (map (finished_at m.pairs state) listed) → i < length listed
+    in_listed : (i : ℕ) → i < length (map (finished_at pairs state) listed) → i < length listed
     in_listed i lt = omega (arith, lt, long)
 
-    low : (i : ℕ) → i < length listed → get_or (map (finished_at m.pairs state) listed) i 0 < count
-    low i lt = subst (λ x. x < count) (sym (old_at (finished_at m.pairs state) listed i lt)) (next_finished a m listed state count i ls found lt)
+    low : (i : ℕ) → i < length listed → get_or (map (finished_at pairs state) listed) i 0 < count
+    low i lt = subst (λ x. x < count) (sym (old_at (finished_at pairs state) listed i lt)) (next_finished a pairs listed state count i ls found lt)
 
-    was : (i c : ℕ) → i < length listed → get_or listed i 0 ≡ c → get_or (map (finished_at m.pairs state) listed) i 0 ≡ finished_at m.pairs state c
-    was i c lt at = old_at (finished_at m.pairs state) listed i lt ∙ ap (finished_at m.pairs state) at
+    was : (i c : ℕ) → i < length listed → get_or listed i 0 ≡ c → get_or (map (finished_at pairs state) listed) i 0 ≡ finished_at pairs state c
+    was i c lt at = old_at (finished_at pairs state) listed i lt ∙ ap (finished_at pairs state) at
 
     now : (i c : ℕ) → i < length listed → get_or listed i 0 ≡ c → look of_cols c ≡ get_or s.labels i 0
     now i c lt at = ap (look of_cols) (sym at) ∙ s.numbers i lt

@@ -3,38 +3,23 @@
 
 mod explore;
 mod numbering;
+mod part;
 mod search;
 
-ghost use Rattle.std.specs.Prelude.{IfOk, IsTrue};
+ghost use Rattle.std.specs.Prelude.{IfOk};
 ghost use Rattle.bip_graph.specs.Matching.{IsMaximumOf};
 ghost use Rattle.bip_graph.specs.Decompositions.{HasParts};
-ghost use Rattle.square_components.specs.Groups.{AreOfMates};
-ghost use Rattle.square_components.specs.Numbers.{AreNumbered, FallAlong};
-ghost use Rattle.square_components.specs.Renumbering.{AreNumberedByLeast};
+ghost use Rattle.square_components.specs.Answers.{AreByFinish, AreSquareComponents};
+ghost use Rattle.square_components.specs.Part.{IsSquarePart};
 
 use crate::explore::searched;
 use crate::numbering::{by_finish, by_least};
+pub use crate::numbering::{ByLeastColumn, SquareComponents, StrongComponents};
+pub use crate::part::{OfDiagonal, OfParts, OfPerfect, SquarePart};
 use bip_graph::{Matching, Parts};
 use column_lists::ColumnLists;
 use sp_ids::OutOfMemory;
 use std::alloc::Global;
-
-/// For each row and each column of the square part the number of its strong component, or
-/// `u32::MAX` outside it, and how many components there are.
-#[derive(Drop)]
-pub struct StrongComponents {
-    pub of_rows: Vec<u32>,
-    pub of_cols: Vec<u32>,
-    pub count: u32,
-}
-
-/// Components that are numbered by their least columns, and whether no entry leads to a greater
-/// number, so that they stand in the order of the blocks.
-#[derive(Drop)]
-pub struct ByLeastColumn {
-    pub components: StrongComponents,
-    pub in_order: bool,
-}
 
 /// The strong components of the square part's columns, where a column leads over each of its
 /// entries to the mate of the entry's row. A row has the number of its mate. An entry leads to no
@@ -54,47 +39,32 @@ pub fn strong_components<C: ColumnLists>(
 ) -> Result<StrongComponents, OutOfMemory>
     requires maximum { IsMaximumOf (C.matrix columns) matching.now }
     requires parts { HasParts (C.matrix columns) parts.now }
-    ensures columns { IfOk result
-        (λ s. AreNumbered (C.matrix columns) matching.now.pairs s.of_cols.items s.count) }
-    ensures rows { IfOk result
-        (λ s. AreOfMates matching.now.pairs s.of_cols.items matching.now.rows s.of_rows.items) }
+    ensures { IfOk result (AreByFinish (C.matrix columns) matching.now.pairs) }
 {
-    let (states, count) = searched(alloc, columns, matching, parts)?;
-    by_finish(
-        alloc,
-        columns,
-        matching,
-        parts.sc.as_slice(),
-        (states, count),
-    )
+    let part = OfParts { matching, parts };
+    part.is_square_part();
+    let found = searched(alloc, columns, part)?;
+    by_finish(alloc, columns, part, found)
 }
 
 /// The strong components of [`strong_components`], numbered by their least columns, and whether the
-/// numbers never rise along an entry.
+/// numbers never rise along an entry. Where there is one component it gives no numbers.
 ///
-/// Takes what [`strong_components`] takes, and 4 bytes a component, which it gives back. Returns
-/// `OutOfMemory` if it cannot allocate that.
-pub fn components_by_least_column<C: ColumnLists>(
+/// The search is that of [`strong_components`]. For numbers it then takes 4 bytes a column, and 4
+/// bytes a component, which it gives back; where there is one component it takes no more memory.
+/// Returns `OutOfMemory` if it cannot allocate that.
+pub fn components_by_least_column<C: ColumnLists, S: SquarePart>(
     alloc: Global,
     columns: C,
-    matching: &Matching,
-    parts: &Parts,
-) -> Result<ByLeastColumn, OutOfMemory>
-    requires maximum { IsMaximumOf (C.matrix columns) matching.now }
-    requires parts { HasParts (C.matrix columns) parts.now }
-    ensures columns { IfOk result (λ s. AreNumberedByLeast (C.matrix columns) matching.now.pairs
-        s.components.of_cols.items s.components.count) }
-    ensures rows { IfOk result (λ s. AreOfMates matching.now.pairs
-        s.components.of_cols.items matching.now.rows s.components.of_rows.items) }
-    ensures in_order { IfOk result (λ s. IsTrue s.in_order → FallAlong (C.matrix columns)
-        s.components.of_rows.items s.components.of_cols.items) }
+    part: S,
+) -> Result<SquareComponents, OutOfMemory>
+    requires { IsSquarePart (C.matrix columns) (S.rows part) (S.cols part) (S.pairs part) }
+    ensures { IfOk result (AreSquareComponents (C.matrix columns) (S.pairs part)) }
 {
-    let (states, count) = searched(alloc, columns, matching, parts)?;
-    by_least(
-        alloc,
-        columns,
-        matching,
-        parts.sc.as_slice(),
-        (states, count),
-    )
+    let (states, count) = searched(alloc, columns, part)?;
+    if count == 1 {
+        return Ok(SquareComponents::One);
+    }
+    let numbered = by_least(alloc, columns, part, (states, count))?;
+    Ok(SquareComponents::Several(numbered))
 }

@@ -1,41 +1,59 @@
 //! The numbers of rows and columns, from what a search left of each row.
 
-ghost use Rattle.std.specs.Prelude.{◌<◌, length, IfOk, IsTrue};
-ghost use Rattle.bip_defs.specs.Lists.{Lists};
-ghost use Rattle.bip_defs.specs.Parts.{IsSquareCol};
-ghost use Rattle.bip_graph.specs.Matching.{IsMaximumOf, none};
+ghost use Rattle.std.specs.Prelude.{◌<◌, length, IfOk};
+ghost use Rattle.bip_graph.specs.Matching.{none};
+ghost use Rattle.square_components.specs.Answers.{AreByFinish, AreByLeast};
 ghost use Rattle.square_components.specs.Found.{IsFound};
-ghost use Rattle.square_components.specs.Groups.{AreOfMates};
-ghost use Rattle.square_components.specs.Numbers.{AreNumbered, FallAlong};
-ghost use Rattle.square_components.specs.Renumbering.{AreNumberedByLeast, Gives};
+ghost use Rattle.square_components.specs.Part.{IsSquarePart};
+ghost use Rattle.square_components.specs.Renumbering.{Gives};
 
+use crate::part::SquarePart;
 use crate::search::NONE;
-use crate::{ByLeastColumn, StrongComponents};
-use bip_graph::Matching;
 use column_lists::ColumnLists;
-use sp_ids::{Col, OutOfMemory};
+use sp_ids::OutOfMemory;
 use std::alloc::Global;
 
+/// For each row and each column of the square part the number of its strong component, or
+/// `u32::MAX` outside it, and how many components there are.
+#[derive(Drop)]
+pub struct StrongComponents {
+    pub of_rows: Vec<u32>,
+    pub of_cols: Vec<u32>,
+    pub count: u32,
+}
+
+/// Components that are numbered by their least columns, and whether no entry leads to a greater
+/// number, so that they stand in the order of the blocks.
+#[derive(Drop)]
+pub struct ByLeastColumn {
+    pub components: StrongComponents,
+    pub in_order: bool,
+}
+
+/// The strong components of a square part: one, which has all its rows and columns, or the numbers
+/// of several, or of none where it is empty.
+#[derive(Drop)]
+pub enum SquareComponents {
+    One,
+    Several(ByLeastColumn),
+}
+
 /// Components by the numbers in which a search finished them.
-pub fn by_finish<C: ColumnLists>(
+pub fn by_finish<C: ColumnLists, S: SquarePart>(
     alloc: Global,
     columns: C,
-    matching: &Matching,
-    cols: &[Col],
+    part: S,
     found: (Vec<u32>, u32),
 ) -> Result<StrongComponents, OutOfMemory>
-    requires maximum { IsMaximumOf (C.matrix columns) matching.now }
-    requires cols { Lists (IsSquareCol (C.matrix columns)) cols.now }
-    requires found { IsFound (C.matrix columns) matching.now.pairs found.0.items found.1 }
-    ensures columns { IfOk result
-        (λ s. AreNumbered (C.matrix columns) matching.now.pairs s.of_cols.items s.count) }
-    ensures rows { IfOk result
-        (λ s. AreOfMates matching.now.pairs s.of_cols.items matching.now.rows s.of_rows.items) }
+    requires part { IsSquarePart (C.matrix columns) (S.rows part) (S.cols part) (S.pairs part) }
+    requires found { IsFound (C.matrix columns) (S.pairs part) found.0.items found.1 }
+    ensures { IfOk result (AreByFinish (C.matrix columns) (S.pairs part)) }
 {
     let (mut of_rows, count) = found;
     let mut of_cols = vec![in alloc; NONE; columns.cols() as usize]?;
-    for col in cols {
-        let row = matching.mate(*col).0 as usize;
+    for place in 0..part.len() {
+        let col = part.col_at(place);
+        let row = part.row_of(col).0 as usize;
         let number = NONE - of_rows[row];
         of_cols[col.0 as usize] = number;
         of_rows[row] = number;
@@ -48,30 +66,24 @@ pub fn by_finish<C: ColumnLists>(
 }
 
 /// Components by their least columns.
-pub fn by_least<C: ColumnLists>(
+pub fn by_least<C: ColumnLists, S: SquarePart>(
     alloc: Global,
     columns: C,
-    matching: &Matching,
-    cols: &[Col],
+    part: S,
     found: (Vec<u32>, u32),
 ) -> Result<ByLeastColumn, OutOfMemory>
-    requires maximum { IsMaximumOf (C.matrix columns) matching.now }
-    requires cols { Lists (IsSquareCol (C.matrix columns)) cols.now }
-    requires found { IsFound (C.matrix columns) matching.now.pairs found.0.items found.1 }
-    ensures columns { IfOk result (λ s. AreNumberedByLeast (C.matrix columns) matching.now.pairs
-        s.components.of_cols.items s.components.count) }
-    ensures rows { IfOk result (λ s. AreOfMates matching.now.pairs
-        s.components.of_cols.items matching.now.rows s.components.of_rows.items) }
-    ensures in_order { IfOk result (λ s. IsTrue s.in_order → FallAlong (C.matrix columns)
-        s.components.of_rows.items s.components.of_cols.items) }
+    requires part { IsSquarePart (C.matrix columns) (S.rows part) (S.cols part) (S.pairs part) }
+    requires found { IsFound (C.matrix columns) (S.pairs part) found.0.items found.1 }
+    ensures { IfOk result (AreByLeast (C.matrix columns) (S.pairs part)) }
 {
     let (mut of_rows, finished) = found;
     let mut of_cols = vec![in alloc; NONE; columns.cols() as usize]?;
     let mut anew = vec![in alloc; NONE; finished as usize]?;
     let mut count = 0;
     let mut in_order = true;
-    for col in cols {
-        let row = matching.mate(*col).0 as usize;
+    for place in 0..part.len() {
+        let col = part.col_at(place);
+        let row = part.row_of(col).0 as usize;
         let old = NONE - of_rows[row];
         let number = given(old, anew.as_mut_slice(), &mut count);
         in_order = in_order && number == old;

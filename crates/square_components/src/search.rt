@@ -2,12 +2,16 @@
 
 ghost use Rattle.std.specs.Prelude.{◌≡◌, ◌≢◌, ℕ, ◌+◌, ◌<◌, ◌≤◌, ◌++◌, List, [], ◌∷◌, length, slice_index, vec_capacity, IfNone, IfOk, IfSome, MatchBool};
 ghost use Rattle.bip_defs.specs.Lists.{Among, IsRising};
+ghost use Rattle.bip_defs.specs.Matrix.{Matrix};
 ghost use Rattle.bip_graph.specs.Matching.{none};
 ghost use Rattle.square_components.specs.Numbers.{look};
+ghost use Rattle.square_components.specs.Part.{IsSquarePart};
 ghost use Rattle.square_components.specs.Stacks.{PathState};
 ghost use Rattle.square_components.specs.Steps.{AreBelow, AreUnmet, Assigns, GoesBack, HasRoom, IsBeginning, IsLast, Leaves, Passes, StopsAt, entering, finishing, merging, with_top};
 
-use sp_ids::{OutOfMemory, Row};
+use crate::part::SquarePart;
+use column_lists::ColumnLists;
+use sp_ids::OutOfMemory;
 use sp_pattern::NumberList;
 use std::alloc::Global;
 use std::marker::Model;
@@ -53,14 +57,17 @@ impl Model for ComponentSearch {
 }
 
 impl ComponentSearch {
-    /// The search of these rows, of which none was met.
-    pub fn new(alloc: Global, rows: u32, square: &[Row]) -> Result<ComponentSearch, OutOfMemory>
-        requires within { (r : ℕ) → Among r square.now → r < rows }
-        requires rising { IsRising square.now }
-        ensures { IfOk result (λ s. IsBeginning rows square.now s) }
+    /// The search of a square part, of which no row was met.
+    pub fn new<C: ColumnLists, S: SquarePart>(
+        alloc: Global,
+        columns: C,
+        part: S,
+    ) -> Result<ComponentSearch, OutOfMemory>
+        requires { IsSquarePart (C.matrix columns) (S.rows part) (S.cols part) (S.pairs part) }
+        ensures { IfOk result (IsBeginning (Matrix.rows (C.matrix columns)) (S.rows part)) }
     {
-        let room = square.len();
-        let state = unmet(alloc, rows, square)?;
+        let room = part.len() as usize;
+        let state = unmet(alloc, columns, part)?;
         let stack = Vec::with_capacity(alloc, room)?;
         let starts = Vec::with_capacity(alloc, room)?;
         let frames = Vec::with_capacity(alloc, room)?;
@@ -192,18 +199,23 @@ impl ComponentSearch {
     }
 }
 
-// For each row 0 where it is one of these, and else no number.
-fn unmet(alloc: Global, rows: u32, square: &[Row]) -> Result<Vec<u32>, OutOfMemory>
-    requires within { (r : ℕ) → Among r square.now → r < rows }
-    requires rising { IsRising square.now }
-    ensures { IfOk result (λ v. AreUnmet rows square.now v.items) }
+// For each row 0 where it is in the square part, and else no number.
+fn unmet<C: ColumnLists, S: SquarePart>(
+    alloc: Global,
+    columns: C,
+    part: S,
+) -> Result<Vec<u32>, OutOfMemory>
+    requires { IsSquarePart (C.matrix columns) (S.rows part) (S.cols part) (S.pairs part) }
+    ensures { IfOk result
+        (λ v. AreUnmet (Matrix.rows (C.matrix columns)) (S.rows part) v.items) }
 {
-    if square.len() == rows as usize {
+    let rows = columns.rows();
+    if part.len() == rows {
         return Ok(vec![in alloc; 0u32; rows as usize]?);
     }
     let mut state = vec![in alloc; NONE; rows as usize]?;
-    for row in square {
-        state[row.0 as usize] = 0;
+    for place in 0..part.len() {
+        state[part.row_at(place).0 as usize] = 0;
     }
     Ok(state)
 }

@@ -52,6 +52,7 @@ loop-col-preserved g c =
           rw (w.matching-is, w.missed-is) (record {
             rows = w.pair.ensures.sizes.0 ∙ inv.rows;
             cols = w.pair.ensures.sizes.1 ∙ inv.cols;
+            pairing = w.pair.ensures.pairing;
             entries = entries_more a c.loop-col.matching.pairs w.pair.new.self.pairs w.in-Some.row c.loop-col.col w.pair.ensures.added entry inv.entries;
             before = columns_more c.loop-col.matching.pairs w.pair.new.self.pairs w.in-Some.row c.loop-col.col w.pair.ensures.added inv.before;
             few = omega (arith, few);
@@ -61,6 +62,7 @@ loop-col-preserved g c =
           rw (w.matching-is, w.missed-is) (record {
             rows = inv.rows;
             cols = inv.cols;
+            pairing = inv.pairing;
             entries = inv.entries;
             before = λ d on. let under = inv.before d on in omega (arith, under);
             few = omega (arith, few);
@@ -72,6 +74,7 @@ loop-col-preserved g c =
           rw (w.matching-is, w.missed-is) (record {
             rows = inv.rows;
             cols = inv.cols;
+            pairing = inv.pairing;
             entries = inv.entries;
             before = λ d on. let under = inv.before d on in omega (arith, under);
             few = omega (arith, few);
@@ -87,7 +90,7 @@ returns-then-missed-eq0 g c =
     let wide : cols (matrix_of c.args.rows starts ids) ≡ length starts - 1 = upto_mapped _ _ in
     let len = c.len.ensures in
     let end = c.loop-col-test.false in
-    let is = look_matching a c.loop-col.matching c.loop-col.invariant.rows (c.loop-col.invariant.cols ∙ sym wide) c.loop-col.invariant.entries c.is_matching.ensures in
+    let is = look_matching a c.loop-col.matching c.loop-col.invariant.rows (c.loop-col.invariant.cols ∙ sym wide) c.loop-col.invariant.entries c.loop-col.invariant.pairing in
     record { matching = is; maximum = cols_matched_maximum a c.loop-col.matching.pairs is.matching (λ r d e. c.loop-col.invariant.covered c.if-missed-eq0.true r d (let within = entry_col a r d e in omega (arith, within, wide, len, end)) e) }
 
 pub returns-then-size-rows : goal.returns-then-size-rows
@@ -96,7 +99,7 @@ returns-then-size-rows g c =
     let ids = g.N.NumberList.numbers c.args.ids in
     let a = matrix_of c.args.rows starts ids in
     let wide : cols (matrix_of c.args.rows starts ids) ≡ length starts - 1 = upto_mapped _ _ in
-    let is = look_matching a c.loop-col.matching c.loop-col.invariant.rows (c.loop-col.invariant.cols ∙ sym wide) c.loop-col.invariant.entries c.is_matching.ensures in
+    let is = look_matching a c.loop-col.matching c.loop-col.invariant.rows (c.loop-col.invariant.cols ∙ sym wide) c.loop-col.invariant.entries c.loop-col.invariant.pairing in
     record { matching = is; maximum = full_rows_maximum a c.loop-col.matching.pairs is.matching (let size = c.size.ensures.size in let test = c.if-size-rows.true in omega (arith, size, test)) }
 
 pub returns-in-Some-eq0 : goal.returns-in-Some-eq0
@@ -105,17 +108,17 @@ returns-in-Some-eq0 g c =
     let ids = g.N.NumberList.numbers c.args.ids in
     let a = matrix_of c.args.rows starts ids in
     let wide : cols (matrix_of c.args.rows starts ids) ≡ length starts - 1 = upto_mapped _ _ in
-    let is = look_matching a c.loop-col.matching c.loop-col.invariant.rows (c.loop-col.invariant.cols ∙ sym wide) c.loop-col.invariant.entries c.is_matching.ensures in
+    let is = look_matching a c.loop-col.matching c.loop-col.invariant.rows (c.loop-col.invariant.cols ∙ sym wide) c.loop-col.invariant.entries c.loop-col.invariant.pairing in
     record { matching = is; maximum = rows_matched_maximum a c.loop-col.matching.pairs is.matching (λ r d e. given_row c.loop-col.matching.pairs starts ids ((rw c.in-Some-eq0.is at c.in_ok-fewer_unmatched.ensures) c.in-Some-eq0.field-0-test) r d ((c.columns_give_their_places.ensures.entries c.args.rows starts ids r d c.requires).0 e).1) }
 
 pub returns-in-Some-2 : goal.returns-in-Some-2
 returns-in-Some-2 g c =
     let a = matrix_of c.args.rows (g.N.NumberList.numbers c.args.starts) (g.N.NumberList.numbers c.args.ids) in
     let wide : cols (matrix_of c.args.rows (g.N.NumberList.numbers c.args.starts) (g.N.NumberList.numbers c.args.ids)) ≡ length (g.N.NumberList.numbers c.args.starts) - 1 = upto_mapped _ _ in
-    look_matching a c.loop-col.matching c.loop-col.invariant.rows (c.loop-col.invariant.cols ∙ sym wide) c.loop-col.invariant.entries c.is_matching.ensures
+    look_matching a c.loop-col.matching c.loop-col.invariant.rows (c.loop-col.invariant.cols ∙ sym wide) c.loop-col.invariant.entries c.loop-col.invariant.pairing
 
 pub returns-in-None-2 : goal.returns-in-None-2
 returns-in-None-2 g c =
     let a = matrix_of c.args.rows (g.N.NumberList.numbers c.args.starts) (g.N.NumberList.numbers c.args.ids) in
     let wide : cols (matrix_of c.args.rows (g.N.NumberList.numbers c.args.starts) (g.N.NumberList.numbers c.args.ids)) ≡ length (g.N.NumberList.numbers c.args.starts) - 1 = upto_mapped _ _ in
-    look_matching a c.loop-col.matching c.loop-col.invariant.rows (c.loop-col.invariant.cols ∙ sym wide) c.loop-col.invariant.entries c.is_matching.ensures
+    look_matching a c.loop-col.matching c.loop-col.invariant.rows (c.loop-col.invariant.cols ∙ sym wide) c.loop-col.invariant.entries c.loop-col.invariant.pairing

@@ -1,5 +1,6 @@
+use Rattle.bip_defs.specs.Matrix.{Matrix}
 use Rattle.square_components.proofs.EndLemmas.{AreCleared}
 use Rattle.square_components.proofs.search.unmet.Given as goal
 
-abbrev pub invariant-loop-row : goal.invariant-loop-row
-invariant-loop-row l = AreCleared l.rows l.square l.row-index l.state.items
+abbrev pub invariant-loop-place : goal.invariant-loop-place
+invariant-loop-place g l = AreCleared (Matrix.rows (g.C.ColumnLists.matrix l.fn.columns)) (g.S.SquarePart.rows l.part) l.place l.state.items

@@ -14,7 +14,7 @@ pub enter-place-requires-clause-room : goal.enter-place-requires-clause-room
 enter-place-requires-clause-room g c =
     let a : Matrix = g.C.ColumnLists.matrix c.args.columns in
     let line : ℕ → List ℕ = g.C.ColumnLists.listed c.args.columns in
-    let pairs : List Place = c.args.matching.now.pairs in
+    let pairs : List Place = g.S.SquarePart.pairs c.args.part in
     let s = c.args.self.now in
     let lt : c.args.root < length s.state = (let i = c.requires.root.0.0 in let e = c.requires.search.state.long in omega (arith, i, e)) in
     has_room a line pairs s c.args.root c.requires.search lt c.requires.root.1
@@ -23,7 +23,7 @@ pub search-init : goal.search-init
 search-init g c =
     let a : Matrix = g.C.ColumnLists.matrix c.args.columns in
     let line : ℕ → List ℕ = g.C.ColumnLists.listed c.args.columns in
-    let pairs : List Place = c.args.matching.now.pairs in
+    let pairs : List Place = g.S.SquarePart.pairs c.args.part in
     let s = c.args.self.now in
     let lt : c.args.root < length s.state = (let i = c.requires.root.0.0 in let e = c.requires.search.state.long in omega (arith, i, e)) in
     let h : c.enter-place.new.self ≡ entering s c.args.root = c.enter-place.ensures.state ∙ ap (entering s) c.root.view_is in
@@ -43,7 +43,7 @@ pub scan-at-requires-clause-first : goal.scan-at-requires-clause-first
 scan-at-requires-clause-first g c =
     let a : Matrix = g.C.ColumnLists.matrix c.args.columns in
     let line : ℕ → List ℕ = g.C.ColumnLists.listed c.args.columns in
-    let pairs : List Place = c.args.matching.now.pairs in
+    let pairs : List Place = g.S.SquarePart.pairs c.args.part in
     let s = c.search.self in
     let p = c.search.place in
     let k = c.search.invariant in
@@ -53,7 +53,7 @@ pub scan-at-requires-clause-rows : goal.scan-at-requires-clause-rows
 scan-at-requires-clause-rows g c =
     let a : Matrix = g.C.ColumnLists.matrix c.args.columns in
     let line : ℕ → List ℕ = g.C.ColumnLists.listed c.args.columns in
-    let pairs : List Place = c.args.matching.now.pairs in
+    let pairs : List Place = g.S.SquarePart.pairs c.args.part in
     let s = c.search.self in
     let p = c.search.place in
     let k = c.search.invariant in
@@ -63,7 +63,7 @@ pub overflow_cast-at : goal.overflow_cast-at
 overflow_cast-at g c =
     let a : Matrix = g.C.ColumnLists.matrix c.args.columns in
     let line : ℕ → List ℕ = g.C.ColumnLists.listed c.args.columns in
-    let pairs : List Place = c.args.matching.now.pairs in
+    let pairs : List Place = g.S.SquarePart.pairs c.args.part in
     let s = c.search.self in
     let p = c.search.place in
     let k = c.search.invariant in
@@ -80,7 +80,7 @@ pub overflow_add-at : goal.overflow_add-at
 overflow_add-at g c =
     let a : Matrix = g.C.ColumnLists.matrix c.args.columns in
     let line : ℕ → List ℕ = g.C.ColumnLists.listed c.args.columns in
-    let pairs : List Place = c.args.matching.now.pairs in
+    let pairs : List Place = g.S.SquarePart.pairs c.args.part in
     let s = c.search.self in
     let p = c.search.place in
     let k = c.search.invariant in
@@ -97,7 +97,7 @@ pub wait-requires : goal.wait-requires
 wait-requires g c =
     let a : Matrix = g.C.ColumnLists.matrix c.args.columns in
     let line : ℕ → List ℕ = g.C.ColumnLists.listed c.args.columns in
-    let pairs : List Place = c.args.matching.now.pairs in
+    let pairs : List Place = g.S.SquarePart.pairs c.args.part in
     let s = c.search.self in
     let p = c.search.place in
     let k = c.search.invariant in
@@ -113,7 +113,7 @@ pub enter-place-requires-then-at-len-clause-room : goal.enter-place-requires-the
 enter-place-requires-then-at-len-clause-room g c =
     let a : Matrix = g.C.ColumnLists.matrix c.args.columns in
     let line : ℕ → List ℕ = g.C.ColumnLists.listed c.args.columns in
-    let pairs : List Place = c.args.matching.now.pairs in
+    let pairs : List Place = g.S.SquarePart.pairs c.args.part in
     let s = c.search.self in
     let p = c.search.place in
     let k = c.search.invariant in
@@ -134,7 +134,7 @@ pub list_of-list-requires-then-at-len-clause-square : goal.list_of-list-requires
 list_of-list-requires-then-at-len-clause-square g c =
     let a : Matrix = g.C.ColumnLists.matrix c.args.columns in
     let line : ℕ → List ℕ = g.C.ColumnLists.listed c.args.columns in
-    let pairs : List Place = c.args.matching.now.pairs in
+    let pairs : List Place = g.S.SquarePart.pairs c.args.part in
     let s = c.search.self in
     let p = c.search.place in
     let k = c.search.invariant in
@@ -155,7 +155,7 @@ pub search-smaller-then-at-len : goal.search-smaller-then-at-len
 search-smaller-then-at-len g c =
     let a : Matrix = g.C.ColumnLists.matrix c.args.columns in
     let line : ℕ → List ℕ = g.C.ColumnLists.listed c.args.columns in
-    let pairs : List Place = c.args.matching.now.pairs in
+    let pairs : List Place = g.S.SquarePart.pairs c.args.part in
     let s = c.search.self in
     let p = c.search.place in
     let k = c.search.invariant in
@@ -178,7 +178,7 @@ pub search-preserved-then-at-len : goal.search-preserved-then-at-len
 search-preserved-then-at-len g c =
     let a : Matrix = g.C.ColumnLists.matrix c.args.columns in
     let line : ℕ → List ℕ = g.C.ColumnLists.listed c.args.columns in
-    let pairs : List Place = c.args.matching.now.pairs in
+    let pairs : List Place = g.S.SquarePart.pairs c.args.part in
     let s = c.search.self in
     let p = c.search.place in
     let k = c.search.invariant in
@@ -212,7 +212,7 @@ pub leave-requires-clause-starts : goal.leave-requires-clause-starts
 leave-requires-clause-starts g c =
     let a : Matrix = g.C.ColumnLists.matrix c.args.columns in
     let line : ℕ → List ℕ = g.C.ColumnLists.listed c.args.columns in
-    let pairs : List Place = c.args.matching.now.pairs in
+    let pairs : List Place = g.S.SquarePart.pairs c.args.part in
     let s = c.search.self in
     let p = c.search.place in
     let k = c.search.invariant in
@@ -228,7 +228,7 @@ pub leave-requires-clause-on : goal.leave-requires-clause-on
 leave-requires-clause-on g c =
     let a : Matrix = g.C.ColumnLists.matrix c.args.columns in
     let line : ℕ → List ℕ = g.C.ColumnLists.listed c.args.columns in
-    let pairs : List Place = c.args.matching.now.pairs in
+    let pairs : List Place = g.S.SquarePart.pairs c.args.part in
     let s = c.search.self in
     let p = c.search.place in
     let k = c.search.invariant in
@@ -244,7 +244,7 @@ pub leave-requires-clause-count : goal.leave-requires-clause-count
 leave-requires-clause-count g c =
     let a : Matrix = g.C.ColumnLists.matrix c.args.columns in
     let line : ℕ → List ℕ = g.C.ColumnLists.listed c.args.columns in
-    let pairs : List Place = c.args.matching.now.pairs in
+    let pairs : List Place = g.S.SquarePart.pairs c.args.part in
     let s = c.search.self in
     let p = c.search.place in
     let k = c.search.invariant in
@@ -260,7 +260,7 @@ pub returns-in_default-clause-search : goal.returns-in_default-clause-search
 returns-in_default-clause-search g c =
     let a : Matrix = g.C.ColumnLists.matrix c.args.columns in
     let line : ℕ → List ℕ = g.C.ColumnLists.listed c.args.columns in
-    let pairs : List Place = c.args.matching.now.pairs in
+    let pairs : List Place = g.S.SquarePart.pairs c.args.part in
     let s = c.search.self in
     let p = c.search.place in
     let k = c.search.invariant in
@@ -281,7 +281,7 @@ pub returns-in_default-clause-root : goal.returns-in_default-clause-root
 returns-in_default-clause-root g c =
     let a : Matrix = g.C.ColumnLists.matrix c.args.columns in
     let line : ℕ → List ℕ = g.C.ColumnLists.listed c.args.columns in
-    let pairs : List Place = c.args.matching.now.pairs in
+    let pairs : List Place = g.S.SquarePart.pairs c.args.part in
     let s = c.search.self in
     let p = c.search.place in
     let k = c.search.invariant in
@@ -302,7 +302,7 @@ pub returns-in_default-clause-met : goal.returns-in_default-clause-met
 returns-in_default-clause-met g c =
     let a : Matrix = g.C.ColumnLists.matrix c.args.columns in
     let line : ℕ → List ℕ = g.C.ColumnLists.listed c.args.columns in
-    let pairs : List Place = c.args.matching.now.pairs in
+    let pairs : List Place = g.S.SquarePart.pairs c.args.part in
     let s = c.search.self in
     let p = c.search.place in
     let k = c.search.invariant in
@@ -323,7 +323,7 @@ pub row_at-requires : goal.row_at-requires
 row_at-requires g c =
     let a : Matrix = g.C.ColumnLists.matrix c.args.columns in
     let line : ℕ → List ℕ = g.C.ColumnLists.listed c.args.columns in
-    let pairs : List Place = c.args.matching.now.pairs in
+    let pairs : List Place = g.S.SquarePart.pairs c.args.part in
     let s = c.search.self in
     let p = c.search.place in
     let k = c.search.invariant in
@@ -347,7 +347,7 @@ pub list_of-list-requires-else-at-len-clause-square : goal.list_of-list-requires
 list_of-list-requires-else-at-len-clause-square g c =
     let a : Matrix = g.C.ColumnLists.matrix c.args.columns in
     let line : ℕ → List ℕ = g.C.ColumnLists.listed c.args.columns in
-    let pairs : List Place = c.args.matching.now.pairs in
+    let pairs : List Place = g.S.SquarePart.pairs c.args.part in
     let s = c.search.self in
     let p = c.search.place in
     let k = c.search.invariant in
@@ -371,7 +371,7 @@ pub search-smaller : goal.search-smaller
 search-smaller g c =
     let a : Matrix = g.C.ColumnLists.matrix c.args.columns in
     let line : ℕ → List ℕ = g.C.ColumnLists.listed c.args.columns in
-    let pairs : List Place = c.args.matching.now.pairs in
+    let pairs : List Place = g.S.SquarePart.pairs c.args.part in
     let s = c.search.self in
     let p = c.search.place in
     let k = c.search.invariant in
@@ -395,7 +395,7 @@ pub search-preserved : goal.search-preserved
 search-preserved g c =
     let a : Matrix = g.C.ColumnLists.matrix c.args.columns in
     let line : ℕ → List ℕ = g.C.ColumnLists.listed c.args.columns in
-    let pairs : List Place = c.args.matching.now.pairs in
+    let pairs : List Place = g.S.SquarePart.pairs c.args.part in
     let s = c.search.self in
     let p = c.search.place in
     let k = c.search.invariant in

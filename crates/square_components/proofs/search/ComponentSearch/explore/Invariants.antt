@@ -10,12 +10,12 @@ abbrev pub invariant-search : goal.invariant-search
 invariant-search g l =
     let c = g.C.ColumnLists in
     record {
-      search : IsDepthFirst (c.matrix l.columns) (c.listed l.columns) l.matching.pairs (with_top l.self l.place l.at);
-      list : g.C.Rows.NumberList.numbers l.list ≡ c.listed l.columns (col_in l.matching.pairs (get_or l.self.stack l.place 0));
+      search : IsDepthFirst (c.matrix l.columns) (c.listed l.columns) (g.S.SquarePart.pairs l.part) (with_top l.self l.place l.at);
+      list : g.C.Rows.NumberList.numbers l.list ≡ c.listed l.columns (col_in (g.S.SquarePart.pairs l.part) (get_or l.self.stack l.place 0));
       within : l.at ≤ length (g.C.Rows.NumberList.numbers l.list);
       root : look l.self.state l.fn.root ≢ 0;
       met : StaysMet l.fn.self.state l.self.state;
-      waits : Waits (c.listed l.columns) l.matching.pairs l.self;
+      waits : Waits (c.listed l.columns) (g.S.SquarePart.pairs l.part) l.self;
     }
 
 abbrev pub decreases-search : goal.decreases-search

@@ -1,74 +1,49 @@
-use Rattle.std.proofs.Common.{◌≡◌, ◌≢◌, ◌∙◌, ℕ, ◌+◌, ◌<◌, ◌≤◌, List, get_or, arith, ap, sym, subst, ⊎_elim, rules}
-use Rattle.std.proofs.lemmas.List.{get_or_default}
+use Rattle.std.proofs.Common.{◌≡◌, ◌≢◌, ◌∙◌, ℕ, ◌+◌, ◌<◌, ◌≤◌, List, get_or, length, arith, ap, sym, subst, ⊎_elim, rules}
 use Rattle.bip_defs.specs.Lists.{Among}
 use Rattle.bip_defs.specs.Matrix.{Matrix, Place}
-use Rattle.bip_defs.specs.Parts.{IsSquareCol, IsSquareRow}
-use Rattle.bip_defs.proofs.Sets.{among_at, one_row, place_among}
-use Rattle.bip_defs.proofs.Square.{square_col_matched, square_col_mate}
+use Rattle.bip_defs.proofs.Sets.{one_row, place_among}
+use Rattle.bip_defs.proofs.Square.{square_col_matched}
 use Rattle.square_components.specs.Numbers.{look}
 use Rattle.square_components.specs.Stacks.{IsDepthFirst, PathState}
 use Rattle.square_components.specs.Steps.{StaysMet}
+use Rattle.square_components.proofs.EndLemmas.{at_among, part_row}
 use Rattle.square_components.proofs.GraphLemmas.{less}
 use Rattle.square_components.proofs.search.ComponentSearch.explore_all.Goals as goal
 use Rattle.square_components.proofs.search.ComponentSearch.explore_all.Goals.{then-not-is_met, else-not-is_met}
 
-pub mate-row-requires : goal.mate-row-requires
-mate-row-requires g c =
-    let a : Matrix = g.C.ColumnLists.matrix c.args.columns in
-    let pairs : List Place = c.args.matching.now.pairs in
-    let cols : List ℕ = c.args.cols.now in
-    let n = c.loop-col.col-index in
-    let col : ℕ = c.col-item.result in
-    let is : col ≡ get_or cols n 0 = c.col-item.is ∙ get_or_default cols n col 0 c.loop-col-test.true in
-    let square : IsSquareCol a col = c.requires.cols col (subst (λ x. Among x cols) (sym is) (among_at cols n 0 c.loop-col-test.true)) in
-    square_col_matched a pairs col c.requires.maximum.maximum square
+pub row_of-row-requires : goal.row_of-row-requires
+row_of-row-requires g c =
+    let lt : c.loop-place.place < length (g.S.SquarePart.cols c.args.part) = omega (arith, c.loop-place-test.true, c.len-place-end.ensures, c.requires.part.same) in
+    square_col_matched _ _ _ c.requires.part.maximum (c.requires.part.square_cols.sound _ (at_among _ _ _ c.col_at.ensures lt))
 
 pub is_met-requires : goal.is_met-requires
 is_met-requires g c =
-    let a : Matrix = g.C.ColumnLists.matrix c.args.columns in
-    let pairs : List Place = c.args.matching.now.pairs in
-    let cols : List ℕ = c.args.cols.now in
-    let n = c.loop-col.col-index in
-    let col : ℕ = c.col-item.result in
-    let is : col ≡ get_or cols n 0 = c.col-item.is ∙ get_or_default cols n col 0 c.loop-col-test.true in
-    let square : IsSquareCol a col = c.requires.cols col (subst (λ x. Among x cols) (sym is) (among_at cols n 0 c.loop-col-test.true)) in
-    let row : IsSquareRow a c.mate-row.result = square_col_mate a pairs c.mate-row.result col c.requires.maximum.maximum c.mate-row.ensures.row square in
+    let row = part_row _ _ _ _ _ _ _ _ c.requires.part c.loop-place-test.true c.len-place-end.ensures c.col_at.ensures c.row_of-row.ensures in
     let i = row.0 in
-    let e = c.loop-col.invariant.search.state.long in
-    let v : c.row.inside.0 ≡ c.mate-row.result = c.row.view_is in
+    let e = c.loop-place.invariant.search.state.long in
+    let v : c.row.inside.0 ≡ c.row_of-row.result = c.row.view_is in
     omega (arith, i, e, v)
 
 pub explore-requires-clause-root : goal.explore-requires-clause-root
 explore-requires-clause-root g c =
-    let a : Matrix = g.C.ColumnLists.matrix c.args.columns in
-    let pairs : List Place = c.args.matching.now.pairs in
-    let cols : List ℕ = c.args.cols.now in
-    let n = c.loop-col.col-index in
-    let col : ℕ = c.col-item.result in
-    let is : col ≡ get_or cols n 0 = c.col-item.is ∙ get_or_default cols n col 0 c.loop-col-test.true in
-    let square : IsSquareCol a col = c.requires.cols col (subst (λ x. Among x cols) (sym is) (among_at cols n 0 c.loop-col-test.true)) in
-    let row : IsSquareRow a c.mate-row.result = square_col_mate a pairs c.mate-row.result col c.requires.maximum.maximum c.mate-row.ensures.row square in
-    let fresh : look c.loop-col.self.state c.mate-row.result ≡ 0 = search rules in
-    (row, fresh)
+    let fresh : look c.loop-place.self.state c.row_of-row.result ≡ 0 = search rules in
+    (part_row _ _ _ _ _ _ _ _ c.requires.part c.loop-place-test.true c.len-place-end.ensures c.col_at.ensures c.row_of-row.ensures, fresh)
 
-pub loop-col-preserved : goal.loop-col-preserved
-loop-col-preserved g c =
+pub loop-place-preserved : goal.loop-place-preserved
+loop-place-preserved g c =
     let a : Matrix = g.C.ColumnLists.matrix c.args.columns in
-    let pairs : List Place = c.args.matching.now.pairs in
-    let cols : List ℕ = c.args.cols.now in
-    let n = c.loop-col.col-index in
-    let col : ℕ = c.col-item.result in
-    let is : col ≡ get_or cols n 0 = c.col-item.is ∙ get_or_default cols n col 0 c.loop-col-test.true in
-    let square : IsSquareCol a col = c.requires.cols col (subst (λ x. Among x cols) (sym is) (among_at cols n 0 c.loop-col-test.true)) in
-    let s = c.loop-col.self in
-    let k = c.loop-col.invariant in
-    let so_far : (u : PathState) → StaysMet s.state u.state → look u.state c.mate-row.result ≢ 0 → (i r : ℕ) → i < n + 1 → Among (r, get_or cols i 0) pairs → look u.state r ≢ 0 =
+    let pairs : List Place = g.S.SquarePart.pairs c.args.part in
+    let cols : List ℕ = g.S.SquarePart.cols c.args.part in
+    let n = c.loop-place.place in
+    let s = c.loop-place.self in
+    let k = c.loop-place.invariant in
+    let so_far : (u : PathState) → StaysMet s.state u.state → look u.state c.row_of-row.result ≢ 0 → (i r : ℕ) → i < n + 1 → Among (r, get_or cols i 0) pairs → look u.state r ≢ 0 =
     (λ u stays met i r lt h. ⊎_elim
     (λ (before : i < n). stays r (k.met i r before h))
     (λ (from : n ≤ i).
     let i_is : i ≡ n = omega (arith, lt, from) in
-    let pair : Among (r, col) pairs = subst (λ x. Among (r, x) pairs) (sym is) (subst (λ j. Among (r, get_or cols j 0) pairs) i_is h) in
-    subst (λ x. look u.state x ≢ 0) (one_row pairs c.requires.maximum.maximum.matching.cols_differ c.mate-row.result r col c.mate-row.ensures.row pair) met)
+    let pair : Among (r, c.col_at.result) pairs = subst (λ x. Among (r, x) pairs) (sym c.col_at.ensures) (subst (λ j. Among (r, get_or cols j 0) pairs) i_is h) in
+    subst (λ x. look u.state x ≢ 0) (one_row pairs c.requires.part.maximum.matching.cols_differ c.row_of-row.result r c.col_at.result c.row_of-row.ensures pair) met)
     (less i n)) in
     elim c.if-not-is_met.branch [
       | then-not-is_met w ↦
@@ -91,6 +66,6 @@ loop-col-preserved g c =
 pub returns-clause-met : goal.returns-clause-met
 returns-clause-met g c =
     λ r col h there.
-    let (k, lt, e) = place_among col 0 c.args.cols.now h in
-    let done : k < c.loop-col.col-index = (let no = c.loop-col-test.false in omega (arith, lt, no)) in
-    c.loop-col.invariant.met k r done (subst (λ x. Among (r, x) c.args.matching.now.pairs) (sym e) there)
+    let (k, lt, e) = place_among col 0 (g.S.SquarePart.cols c.args.part) h in
+    let done : k < c.loop-place.place = omega (arith, lt, c.loop-place-test.false, c.len-place-end.ensures, c.requires.part.same) in
+    c.loop-place.invariant.met k r done (subst (λ x. Among (r, x) (g.S.SquarePart.pairs c.args.part)) (sym e) there)

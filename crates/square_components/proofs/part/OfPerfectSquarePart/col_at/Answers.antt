@@ -1,0 +1,5 @@
+use Rattle.square_components.proofs.PartLemmas.{place_is}
+use Rattle.square_components.proofs.part.OfPerfectSquarePart.col_at.Goals as goal
+
+pub returns : goal.returns
+returns c = place_is c.args.self.matching.now.cols c.args.place c.requires
