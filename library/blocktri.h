@@ -51,6 +51,7 @@
  *   decomposition         44      56   16
  *   dmperm                44      56   16
  *   block_order           20      56   16
+ *   order_by              20      56   16
  *   heaviest               8      40  124
  *   bottleneck            16      60   40
  *   bottleneck by rows    16      60   72
@@ -83,9 +84,9 @@ extern "C" {
 int32_t blocktri_version(void);
 
 /* What a call returns. At BLOCKTRI_OK there is an answer, and *fault keeps its value. At any other status there is none: the call
- * has written nothing but *fault at 4, 20, 21 and 25, and *rank of blocktri_block_order at 1.
+ * has written nothing but *fault at 4, 20, 21, 25 and 27, and *rank of blocktri_block_order at 1.
  *
- * If several things are wrong, the call returns the first of: 25, 23, 20, 21, 4, 2, 1, 24. A call may return 7 instead of any answer
+ * If several things are wrong, the call returns the first of: 25, 23, 20, 21, 4, 2, 27, 1, 24. A call may return 7 instead of any answer
  * or refusal from 4 on in this list. Numbers that are missing here are never used, or are kept for later versions. */
 enum blocktri_status {
   BLOCKTRI_OK = 0,
@@ -117,7 +118,10 @@ enum blocktri_status {
 
   /* An argument cannot be taken: it is NULL and must not be, flags has a bit that this call does not know, or sizes->size is too
    * small. *fault is the number of the first such argument, counted from 1. */
-  BLOCKTRI_BAD_ARGUMENT = 25
+  BLOCKTRI_BAD_ARGUMENT = 25,
+
+  /* Column *fault is the first whose given row cannot be taken: it is no row, or a column before has it. */
+  BLOCKTRI_BAD_PAIR = 27
 };
 
 /* A sentence for a status, also for numbers that are no status. Never NULL. */
@@ -129,7 +133,7 @@ const char *blocktri_text(int32_t status);
 /* Flags, to be joined with |. Each call names those that it knows, and refuses all others with BLOCKTRI_BAD_ARGUMENT. */
 #define BLOCKTRI_LEAST UINT32_C(1)
 #define BLOCKTRI_START UINT32_C(2)    /* for a later version: no call knows it yet */
-#define BLOCKTRI_COMPLETE UINT32_C(4) /* for a later version: no call knows it yet */
+#define BLOCKTRI_COMPLETE UINT32_C(4) /* order a singular matrix too */
 #define BLOCKTRI_BY_ROWS UINT32_C(8)  /* the lists are compressed rows; every call knows it */
 
 /* STRUCTURAL RANK: how many rows can be paired with columns by entries, no row and no column twice. It is the greatest rank of all
@@ -245,10 +249,10 @@ int32_t blocktri_dmperm_64(int64_t rows, int64_t columns, const int64_t *starts,
                            uint32_t flags, int64_t *p, int64_t *q, int64_t *r, int64_t *s, int64_t *row_of_column,
                            int64_t *row_component, int64_t *column_component, struct blocktri_sizes *sizes, int64_t *fault);
 
-/* BLOCK ORDER of a square matrix of full structural rank: what a sparse LU factorisation by blocks needs, as KLU needs btf_order. In
- * these orders the matrix is block upper triangular and has an entry at each place of the diagonal.
+/* BLOCK ORDER of a square matrix: what a sparse LU factorisation by blocks needs, as KLU needs btf_order. In these orders the matrix
+ * is block upper triangular. If its structural rank is full, it has an entry at each place of the diagonal.
  *
- *   flags          BLOCKTRI_BY_ROWS.
+ *   flags          BLOCKTRI_BY_ROWS, BLOCKTRI_COMPLETE.
  *   column_order   gets the columns as blocktri_decomposition orders them, row_order the rows: row_order[k] is the row that the
  *                  matching pairs with column_order[k].
  *   block_starts   has room for columns + 1 numbers. Block b has the places block_starts[b] up to but not block_starts[b + 1] of both
@@ -256,6 +260,16 @@ int32_t blocktri_dmperm_64(int64_t rows, int64_t columns, const int64_t *starts,
  *   row_of_column  gets for each column its row. A full natural diagonal is kept, as by blocktri_matching.
  *   *blocks        gets the number of blocks, or -1 if row_order, column_order and block_starts are all NULL.
  *   *rank          gets the structural rank, at BLOCKTRI_SINGULAR too.
+ *
+ * With BLOCKTRI_COMPLETE a singular matrix is ordered too, and status 1 does not occur:
+ *
+ *   - The unmatched rows and the unmatched columns, both rising, are paired in step: the first with the first, and so on. None of
+ *     these pairs is an entry, but they count as entries: the blocks are those of the matrix with these entries added.
+ *   - row_order has the blocks in the order in which blocktri_decomposition has them for that matrix, and in each block the rows
+ *     rise. column_order[k] is the column that is paired with row_order[k]. At full rank too, in place of columns that rise.
+ *   - row_of_column has BLOCKTRI_NONE for the unmatched columns. So *rank places of the diagonal have an entry.
+ *
+ * Which blocks a singular matrix has then depends on the matching, which may be any maximum one.
  *
  * Statuses: 0, 1, 2, 7, 20, 21, 23, 25.
  * Work: as blocktri_decomposition. */
@@ -265,6 +279,28 @@ int32_t blocktri_block_order(int32_t rows, int32_t columns, const int32_t *start
 int32_t blocktri_block_order_64(int64_t rows, int64_t columns, const int64_t *starts, const int64_t *ids, int64_t ids_length,
                                 uint32_t flags, int64_t *row_order, int64_t *column_order, int64_t *block_starts,
                                 int64_t *row_of_column, int64_t *blocks, int64_t *rank, int64_t *fault);
+
+/* ORDER BY GIVEN PAIRS of a square matrix: the orders that blocktri_block_order gives with BLOCKTRI_COMPLETE, for pairs of yours, as
+ * btf_strongcomp finds them.
+ *
+ *   flags          BLOCKTRI_BY_ROWS.
+ *   row_of_column  has for each column the row that is paired with it, each row once. It may be NULL if columns is 0. A pair need
+ *                  not be an entry, but counts as one: the blocks are those of the matrix with these entries added.
+ *   row_order      gets the rows: the blocks in the order in which blocktri_decomposition has them for that matrix, and in each
+ *                  block the rows rise. column_order[k] gets the column that is paired with row_order[k].
+ *   block_starts   as in blocktri_block_order.
+ *   *blocks        gets the number of blocks.
+ *
+ * Each matrix with such pairs has one answer.
+ *
+ * Statuses: 0, 2, 7, 20, 21, 23, 25, 27.
+ * Work: a fixed number of units. */
+int32_t blocktri_order_by(int32_t rows, int32_t columns, const int32_t *starts, const int32_t *ids, int32_t ids_length,
+                          uint32_t flags, const int32_t *row_of_column, int32_t *row_order, int32_t *column_order,
+                          int32_t *block_starts, int32_t *blocks, int64_t *fault);
+int32_t blocktri_order_by_64(int64_t rows, int64_t columns, const int64_t *starts, const int64_t *ids, int64_t ids_length,
+                             uint32_t flags, const int64_t *row_of_column, int64_t *row_order, int64_t *column_order,
+                             int64_t *block_starts, int64_t *blocks, int64_t *fault);
 
 /* VALUES. The two calls below take one value for each id. The weight of a place is the magnitude of the sum of its values. Both look
  * for a perfect matching of a square matrix: each row paired with a column by an entry. */

@@ -29,6 +29,7 @@ const char *blocktri_text(int32_t status) {
     case BLOCKTRI_BAD_SIZE: return "a size is negative or too large";
     case BLOCKTRI_PRICE_LIMIT: return "no prices of 64 bits prove the diagonal";
     case BLOCKTRI_BAD_ARGUMENT: return "an argument cannot be taken";
+    case BLOCKTRI_BAD_PAIR: return "a given pair is none, or has a row that stood before";
     default: return "this is no status of libblocktri";
   }
 }
@@ -36,7 +37,7 @@ const char *blocktri_text(int32_t status) {
 /* Gives a status back, with the place of the fault where that status has one. */
 static int32_t refused(int32_t status, uint64_t place, int64_t *fault) {
   bool has_place = status == BLOCKTRI_SUM_LIMIT || status == BLOCKTRI_BAD_START || status == BLOCKTRI_BAD_ROW ||
-                   status == BLOCKTRI_BAD_ARGUMENT;
+                   status == BLOCKTRI_BAD_ARGUMENT || status == BLOCKTRI_BAD_PAIR;
   if (has_place && fault != NULL) *fault = (int64_t)place;
   return status;
 }

@@ -160,16 +160,18 @@ int32_t WIDTH(blocktri_block_order)(I rows, I columns, const I *starts, const I 
   const struct WIDTH(matrix) a = {rows, columns, starts, ids, ids_length, false, NULL, flags};
   struct WIDTH(lists) m;
   uint64_t place;
-  int32_t status = WIDTH(take)(&a, BLOCKTRI_BY_ROWS, 0, &m, &place);
+  int32_t status = WIDTH(take)(&a, BLOCKTRI_BY_ROWS | BLOCKTRI_COMPLETE, 0, &m, &place);
   if (status != BLOCKTRI_OK) return refused(status, place, fault);
   bool wants_blocks = row_order != NULL || column_order != NULL || block_starts != NULL;
+  bool completes = (flags & BLOCKTRI_COMPLETE) != 0;
   size_t height = (size_t)rows, width = (size_t)columns;
   uint32_t nothing = 0, found = 0, found_rank = 0;
   struct room of_rows = room(row_order, height, &nothing), of_columns = room(column_order, width, &nothing);
   struct room of_blocks = room(block_starts, width + 1, &nothing), pairs = room(row_of_column, width, &nothing);
-  status = WIDTH(proved_block_order)(m.others, m.starts, m.starts_length, m.ids, m.ids_length, m.by_rows, wants_blocks,
-                                     of_rows.numbers, of_rows.length, of_columns.numbers, of_columns.length, of_blocks.numbers,
-                                     of_blocks.length, pairs.numbers, pairs.length, &found, &found_rank, &place);
+  status = (completes ? WIDTH(proved_completed_order) : WIDTH(proved_block_order))(
+      m.others, m.starts, m.starts_length, m.ids, m.ids_length, m.by_rows, wants_blocks, of_rows.numbers, of_rows.length,
+      of_columns.numbers, of_columns.length, of_blocks.numbers, of_blocks.length, pairs.numbers, pairs.length, &found, &found_rank,
+      &place);
   if (status == BLOCKTRI_SINGULAR) WIDTH(put)(rank, (I)found_rank);
   if (status != BLOCKTRI_OK) return refused(status, place, fault);
   WIDTH(widen)(row_order, height);
@@ -178,6 +180,30 @@ int32_t WIDTH(blocktri_block_order)(I rows, I columns, const I *starts, const I 
   WIDTH(widen)(row_of_column, width);
   WIDTH(put)(blocks, wants_blocks ? (I)found : -1);
   WIDTH(put)(rank, (I)found_rank);
+  return status;
+}
+
+int32_t WIDTH(blocktri_order_by)(I rows, I columns, const I *starts, const I *ids, I ids_length, uint32_t flags,
+                                 const I *row_of_column, I *row_order, I *column_order, I *block_starts, I *blocks,
+                                 int64_t *fault) {
+  const struct WIDTH(matrix) a = {rows, columns, starts, ids, ids_length, false, NULL, flags};
+  struct WIDTH(lists) m;
+  uint64_t place;
+  int32_t status = WIDTH(take)(&a, BLOCKTRI_BY_ROWS, row_of_column == NULL && columns != 0 ? 7 : 0, &m, &place);
+  if (status != BLOCKTRI_OK) return refused(status, place, fault);
+  size_t height = (size_t)rows, width = (size_t)columns;
+  uint32_t nothing = 0, found = 0;
+  const U *pairs = row_of_column == NULL ? &WIDTH(zero) : (const U *)row_of_column;
+  struct room of_rows = room(row_order, height, &nothing), of_columns = room(column_order, width, &nothing);
+  struct room of_blocks = room(block_starts, width + 1, &nothing);
+  status = WIDTH(proved_order_by)(m.others, m.starts, m.starts_length, m.ids, m.ids_length, m.by_rows, pairs, width,
+                                  of_rows.numbers, of_rows.length, of_columns.numbers, of_columns.length, of_blocks.numbers,
+                                  of_blocks.length, &found, &place);
+  if (status != BLOCKTRI_OK) return refused(status, place, fault);
+  WIDTH(widen)(row_order, height);
+  WIDTH(widen)(column_order, width);
+  WIDTH(widen_starts)(block_starts, (size_t)found + 1);
+  WIDTH(put)(blocks, (I)found);
   return status;
 }
 

@@ -2,7 +2,7 @@
  *
  * A list is a pointer and the number of its elements. No pointer may be null, not even that of an empty list. A list to be written has
  * the length that its call asks for, or length 0 if it is not wanted. At status 0 a call writes what it is asked for; at any other
- * status it writes nothing, but *fault at 4, 20 and 21, and what a call names below.
+ * status it writes nothing, but *fault at 4, 20, 21 and 27, and what a call names below.
  *
  * by_rows says that the lists are compressed rows: then others is the number of columns, and ids are column numbers. Without it others
  * is the number of rows, and ids are row numbers. Numbers of rows, columns and components have 32 bits in both widths; UINT32_MAX
@@ -15,7 +15,7 @@
 #include <stdint.h>
 
 /* The statuses: 0 there is an answer; 1 singular; 2 not square; 4 sum limit; 7 out of memory; 20 bad start; 21 bad row; 22 a list to
- * be written has a wrong length; 23 too many rows; 24 price limit. */
+ * be written has a wrong length; 23 too many rows; 24 price limit; 27 bad pair. */
 
 /* -1 stands for a number that is not known, since it was not wanted. */
 struct proved_sizes {
@@ -66,6 +66,17 @@ int32_t proved_dmperm_64(WIDE, DMPERM);
       uint32_t *rank, uint64_t *fault
 int32_t proved_block_order(NARROW, BLOCK_ORDER);
 int32_t proved_block_order_64(WIDE, BLOCK_ORDER);
+
+/* The same lists. There is no status 1: unmatched rows and columns are paired. */
+int32_t proved_completed_order(NARROW, BLOCK_ORDER);
+int32_t proved_completed_order_64(WIDE, BLOCK_ORDER);
+
+/* pairs and column_order: columns; row_order: rows; block_starts: columns + 1. pairs are read, and have the width of ids. */
+#define ORDER_BY(U) \
+  bool by_rows, const U *pairs, size_t pairs_length, LIST(row_order), LIST(column_order), LIST(block_starts), uint32_t *blocks, \
+      uint64_t *fault
+int32_t proved_order_by(NARROW, ORDER_BY(uint32_t));
+int32_t proved_order_by_64(WIDE, ORDER_BY(uint64_t));
 
 /* values: ids_length; row_of_column and column_prices: columns; row_prices: rows. If both lists of prices have length 0 there is no
  * status 24. */

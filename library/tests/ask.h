@@ -1,5 +1,5 @@
 /* ask.h: every call of one width. check.h includes it twice, with I, the type of indices, WIDTH(name), the name of a call in this
- * width, and STARTS(matrix) and IDS(matrix). */
+ * width, and STARTS(matrix), IDS(matrix) and PAIRS(matrix). */
 
 /* The room that a call is given to write to. A pointer is NULL where an output is left out. */
 struct WIDTH(room) {
@@ -25,6 +25,7 @@ static inline void WIDTH(make_room)(enum call call, struct WIDTH(room) *to, unsi
 static inline int32_t WIDTH(call_of)(enum call call, const struct matrix *a, uint32_t flags, struct WIDTH(room) *to) {
   I m = (I)a->rows, n = (I)a->columns, count = (I)a->count, **o = to->n;
   const I *starts = (a->left_out & NO_STARTS) != 0 ? NULL : STARTS(a), *ids = (a->left_out & NO_IDS) != 0 ? NULL : IDS(a);
+  const I *pairs = (a->left_out & NO_PAIRS) != 0 ? NULL : PAIRS(a);
   const int64_t *values = (a->left_out & NO_VALUES) != 0 ? NULL : a->values;
   int64_t **l = to->l;
   switch (call) {
@@ -37,6 +38,7 @@ static inline int32_t WIDTH(call_of)(enum call call, const struct matrix *a, uin
                                     l[FAULT]);
     case BLOCK_ORDER:
       return WIDTH(blocktri_block_order)(m, n, starts, ids, count, flags, o[0], o[1], o[2], o[3], o[4], o[5], l[FAULT]);
+    case ORDER_BY: return WIDTH(blocktri_order_by)(m, n, starts, ids, count, flags, pairs, o[0], o[1], o[2], o[3], l[FAULT]);
     case HEAVIEST:
       return WIDTH(blocktri_heaviest)(m, n, starts, ids, count, values, flags, o[0], l[1], l[2], to->to_sum, o[4], o[5], o[6],
                                       l[FAULT]);

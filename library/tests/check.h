@@ -27,12 +27,15 @@ static const char *about = "";
 enum { MOST = 16, MOST_IDS = 96, OUTPUTS = 9, ROOM = 24 };
 
 /* bits of left_out: the lists for which NULL is passed */
-enum { NO_STARTS = 1, NO_IDS = 2, NO_VALUES = 4 };
+enum { NO_STARTS = 1, NO_IDS = 2, NO_VALUES = 4, NO_PAIRS = 8 };
 
-/* lists with indices of both widths, and a value for each id */
+/* lists with indices of both widths, a value for each id, and a row for each column: column j itself without has_pairs */
 struct matrix {
   int64_t rows, columns, count;
   unsigned left_out;
+  bool has_pairs;
+  int32_t pairs[MOST];
+  int64_t wide_pairs[MOST];
   int32_t starts[MOST + 1], ids[MOST_IDS];
   int64_t wide_starts[MOST + 1], wide_ids[MOST_IDS], values[MOST_IDS];
 };
@@ -40,9 +43,13 @@ struct matrix {
 static inline void widen(struct matrix *a) {
   for (int32_t i = 0; i <= MOST; i++) a->wide_starts[i] = a->starts[i];
   for (int64_t i = 0; i < a->count; i++) a->wide_ids[i] = a->ids[i];
+  for (int32_t i = 0; i < MOST; i++) {
+    if (!a->has_pairs) a->pairs[i] = i;
+    a->wide_pairs[i] = a->pairs[i];
+  }
 }
 
-enum call { RANK, MATCHING, DECOMPOSITION, DMPERM, BLOCK_ORDER, HEAVIEST, BOTTLENECK, CALLS };
+enum call { RANK, MATCHING, DECOMPOSITION, DMPERM, BLOCK_ORDER, ORDER_BY, HEAVIEST, BOTTLENECK, CALLS };
 
 /* the outputs of each call, in the order of its arguments; FAULT is one of each */
 enum { RANK_RANK };
@@ -59,6 +66,7 @@ enum {
   DMPERM_SIZES
 };
 enum { ORDER_ROWS, ORDER_COLUMNS, ORDER_STARTS, ORDER_PAIRS, ORDER_BLOCKS, ORDER_RANK };
+enum { BY_ROWS, BY_COLUMNS, BY_STARTS, BY_BLOCKS }; /* of ORDER_BY */
 enum {
   HEAVIEST_ROWS,
   HEAVIEST_ROW_PRICES,
@@ -71,10 +79,11 @@ enum {
 enum { BOTTLENECK_ROWS, BOTTLENECK_LEAST, BOTTLENECK_RANK, BOTTLENECK_SET, BOTTLENECK_COUNT };
 enum { FAULT = OUTPUTS - 1 };
 
-static const int outputs_of[CALLS] = {1, 3, 6, 8, 6, 7, 5};
+static const int outputs_of[CALLS] = {1, 3, 6, 8, 6, 4, 7, 5};
 
 /* the flags that a call knows */
 static inline uint32_t known_to(enum call call) {
+  if (call == BLOCK_ORDER) return BLOCKTRI_BY_ROWS | BLOCKTRI_COMPLETE;
   return call == MATCHING ? BLOCKTRI_BY_ROWS | BLOCKTRI_LEAST : BLOCKTRI_BY_ROWS;
 }
 
@@ -117,21 +126,25 @@ static inline struct blocktri_sizes sizes_of(const struct answer *answer, int ou
 #define WIDTH(name) name
 #define STARTS(a) (a)->starts
 #define IDS(a) (a)->ids
+#define PAIRS(a) (a)->pairs
 #include "ask.h"
 #undef I
 #undef WIDTH
 #undef STARTS
 #undef IDS
+#undef PAIRS
 
 #define I int64_t
 #define WIDTH(name) name##_64
 #define STARTS(a) (a)->wide_starts
 #define IDS(a) (a)->wide_ids
+#define PAIRS(a) (a)->wide_pairs
 #include "ask.h"
 #undef I
 #undef WIDTH
 #undef STARTS
 #undef IDS
+#undef PAIRS
 
 /* asks a call in both widths, which must answer alike */
 static inline struct answer ask(enum call call, const struct matrix *a, uint32_t flags) {
@@ -142,7 +155,8 @@ static inline struct answer ask(enum call call, const struct matrix *a, uint32_t
 
 /* the same matrix as compressed rows */
 static inline struct matrix by_rows(const struct matrix *a) {
-  struct matrix turned = {.rows = a->rows, .columns = a->columns, .count = 0};
+  struct matrix turned = {.rows = a->rows, .columns = a->columns, .count = 0, .has_pairs = a->has_pairs};
+  memcpy(turned.pairs, a->pairs, sizeof turned.pairs);
   for (int32_t r = 0; r < a->rows; r++) {
     for (int32_t c = 0; c < a->columns; c++)
       for (int32_t k = a->starts[c]; k < a->starts[c + 1]; k++)

@@ -2,7 +2,7 @@
 #include "check.h"
 
 static const struct matrix right = {
-    .rows = 4, .columns = 4, .count = 7, .starts = {0, 1, 2, 4, 7}, .ids = {0, 0, 1, 0, 3, 1, 2}};
+    .rows = 4, .columns = 4, .count = 7, .starts = {0, 1, 2, 4, 7}, .ids = {0, 0, 1, 0, 3, 1, 2}, .pairs = {0, 1, 2, 3}};
 
 enum { NO_PLACE = -1 };
 
@@ -198,6 +198,8 @@ static void arguments_that_cannot_be_taken(void) {
       bad_argument(call, a, flags, 4);
       a.left_out = NO_VALUES;
       if (is_valued(call)) bad_argument(call, a, flags, 6);
+      a.left_out = NO_PAIRS;
+      if (call == ORDER_BY) bad_argument(call, a, flags, 7);
     }
   }
 }
@@ -219,17 +221,56 @@ static void starts_of_one_side(void) {
   }
 }
 
+/* pairs that are none at each place, in both widths; a matrix that is not square is told before them */
+static void pairs_that_are_wrong(void) {
+  static const int32_t narrow[] = {4, INT32_MAX, -1, INT32_MIN};
+  static const int64_t wide[] = {4, INT64_MAX, -1, INT64_MIN, UINT32_MAX, INT64_C(1) << 32, (INT64_C(1) << 32) + 3};
+  for (int at = 0; at < 4; at++)
+    for (uint32_t flags = 0; flags <= BLOCKTRI_BY_ROWS; flags += BLOCKTRI_BY_ROWS) {
+      struct matrix a = right;
+      a.has_pairs = true;
+      for (size_t i = 0; i < sizeof narrow / sizeof *narrow; i++) {
+        a.pairs[at] = narrow[i], a.pairs[3] = at < 3 ? -7 : narrow[i];
+        struct answer got = answer_of(ORDER_BY, &a, flags, 0);
+        tells(ORDER_BY, &got, BLOCKTRI_BAD_PAIR, at);
+        got = answer_of(ORDER_BY, &a, flags, 1u << FAULT);
+        tells(ORDER_BY, &got, BLOCKTRI_BAD_PAIR, NO_PLACE);
+      }
+      for (size_t i = 0; i < sizeof wide / sizeof *wide; i++) {
+        a = right, a.has_pairs = true;
+        widen(&a);
+        a.wide_pairs[at] = wide[i];
+        struct answer got = answer_of_64(ORDER_BY, &a, flags, 0);
+        tells(ORDER_BY, &got, BLOCKTRI_BAD_PAIR, at);
+      }
+      /* a row that stood before */
+      a = right, a.has_pairs = true;
+      a.pairs[at] = at > 0 ? a.pairs[at - 1] : a.pairs[0];
+      widen(&a);
+      struct answer got = ask(ORDER_BY, &a, flags);
+      if (at > 0) tells(ORDER_BY, &got, BLOCKTRI_BAD_PAIR, at);
+    }
+  struct matrix tall = {.rows = 4, .columns = 3, .has_pairs = true, .pairs = {-1, -1, -1}};
+  widen(&tall);
+  struct answer got = ask(ORDER_BY, &tall, 0);
+  tells(ORDER_BY, &got, BLOCKTRI_NOT_SQUARE, NO_PLACE);
+  tall.count = 1, tall.starts[3] = 1, tall.ids[0] = 4;
+  widen(&tall);
+  got = ask(ORDER_BY, &tall, 0);
+  tells(ORDER_BY, &got, BLOCKTRI_BAD_ROW, 0);
+}
+
 static void texts(void) {
   static const int32_t statuses[] = {BLOCKTRI_OK,        BLOCKTRI_SINGULAR,     BLOCKTRI_NOT_SQUARE, BLOCKTRI_SUM_LIMIT,
                                      BLOCKTRI_OUT_OF_MEMORY, BLOCKTRI_BAD_START, BLOCKTRI_BAD_ROW,    BLOCKTRI_BAD_SIZE,
-                                     BLOCKTRI_PRICE_LIMIT, BLOCKTRI_BAD_ARGUMENT, -1 /* no status */};
-  static const int32_t numbers[] = {0, 1, 2, 4, 7, 20, 21, 23, 24, 25, -1};
+                                     BLOCKTRI_PRICE_LIMIT, BLOCKTRI_BAD_ARGUMENT, BLOCKTRI_BAD_PAIR, -1 /* no status */};
+  static const int32_t numbers[] = {0, 1, 2, 4, 7, 20, 21, 23, 24, 25, 27, -1};
   size_t count = sizeof statuses / sizeof *statuses;
   for (size_t i = 0; i < count; i++) {
     CHECK(statuses[i] == numbers[i] && strlen(blocktri_text(statuses[i])) > 0);
     for (size_t j = 0; j < i; j++) CHECK(strcmp(blocktri_text(statuses[i]), blocktri_text(statuses[j])) != 0);
   }
-  static const int32_t none[] = {3, 5, 6, 8, 19, 22, 26, 27, 28, 29, INT32_MAX, INT32_MIN};
+  static const int32_t none[] = {3, 5, 6, 8, 19, 22, 26, 28, 29, INT32_MAX, INT32_MIN};
   for (size_t i = 0; i < sizeof none / sizeof *none; i++) CHECK(strcmp(blocktri_text(none[i]), blocktri_text(-1)) == 0);
 }
 
@@ -247,6 +288,7 @@ int main(void) {
   sizes_at_their_limits();
   arguments_that_cannot_be_taken();
   starts_of_one_side();
+  pairs_that_are_wrong();
   texts();
   version();
   return 0;

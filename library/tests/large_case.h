@@ -20,6 +20,12 @@ static int32_t WIDTH(call_case)(int which, uint32_t flags) {
     case BLOCK_ORDER_CASE:
       return WIDTH(blocktri_block_order)(rows, columns, s, i, count, flags, list[0], list[1], list[2], list[3], to_number,
                                          to_rank, NULL);
+    case COMPLETE_CASE:
+      return WIDTH(blocktri_block_order)(rows, columns, s, i, count, flags | BLOCKTRI_COMPLETE, list[0], list[1], list[2], list[3],
+                                         to_number, to_rank, NULL);
+    case ORDER_BY_CASE:
+      for (int32_t c = 0; c < columns; c++) list[6][c] = c;
+      return WIDTH(blocktri_order_by)(rows, columns, s, i, count, flags, list[6], list[0], list[1], list[2], to_number, NULL);
     case HEAVIEST_CASE:
       return WIDTH(blocktri_heaviest)(rows, columns, s, i, count, values, flags, list[0], prices[0], prices[1], &sum, NULL, NULL,
                                       NULL, NULL);

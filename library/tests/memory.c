@@ -76,6 +76,7 @@ static void refusals(void) {
       refuse_in_turn((enum call)call, is_square ? &cycle : &parts, 0, is_wide == 1);
       refuse_in_turn((enum call)call, &turned, BLOCKTRI_BY_ROWS, is_wide == 1);
       if (call == MATCHING) refuse_in_turn(MATCHING, &parts, BLOCKTRI_LEAST, is_wide == 1);
+      if (call == BLOCK_ORDER) refuse_in_turn(BLOCK_ORDER, &parts, BLOCKTRI_COMPLETE, is_wide == 1);
     }
 }
 
@@ -86,8 +87,8 @@ enum { SIDE = 2050, IDS = 16 * SIDE, DENSE_SIDE = 200 };
 
 static uint64_t state;
 
-static const char *const names[CASES] = {"rank",   "matching",    "matching, LEAST", "decomposition",
-                                         "dmperm", "block_order", "heaviest",        "bottleneck"};
+static const char *const names[CASES] = {"rank",        "matching",    "matching, LEAST", "decomposition", "dmperm",
+                                         "block_order", "block_order", "order_by",        "heaviest",      "bottleneck"};
 
 /* the shapes of matrices: each has one of the sides, the ids, or the work of one part of the analysis at its greatest */
 enum shape {

@@ -33,6 +33,8 @@ static inline void same_orders(const struct matrix *a, uint32_t flags, const str
   CHECK(one.status == other.status);
   for (int output = ORDER_COLUMNS; output <= ORDER_RANK; output++)
     if (output != ORDER_PAIRS) same_output(&one, &other, output);
+  one = ask(ORDER_BY, a, flags), other = ask(ORDER_BY, b, other_flags);
+  CHECK(memcmp(&one, &other, sizeof one) == 0);
 }
 
 /* of the diagonals the greatest sum, and the greatest least weight */

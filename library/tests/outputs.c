@@ -53,6 +53,7 @@ static void subsets(void) {
       each_subset((enum call)call, &turned, BLOCKTRI_BY_ROWS);
     }
     each_subset(MATCHING, &a, BLOCKTRI_LEAST);
+    each_subset(BLOCK_ORDER, &a, BLOCKTRI_COMPLETE);
     statuses[ask(BLOCK_ORDER, &a, 0).status]++;
   }
   CHECK(statuses[BLOCKTRI_OK] > 5 && statuses[BLOCKTRI_SINGULAR] > 5 && statuses[BLOCKTRI_NOT_SQUARE] > 5);

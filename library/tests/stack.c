@@ -43,12 +43,13 @@ static void *ring_with_one_matching(void *unused) {
   for (int which = 0; which < CASES; which++) {
     rank = 0, number = 0;
     CHECK(call_case(which, flags) == BLOCKTRI_OK);
-    if (which <= LEAST_CASE || which == BLOCK_ORDER_CASE) CHECK(rank == SIDE);
+    if (which <= LEAST_CASE || which == BLOCK_ORDER_CASE || which == COMPLETE_CASE) CHECK(rank == SIDE);
+    if (which == ORDER_BY_CASE) CHECK(number == 1 && lists[2][1] == SIDE);
     if (which == MATCHING_CASE || which == LEAST_CASE)
       CHECK(lists[0][SIDE - 1] == 0 && lists[0][0] == 1 && lists[1][SIDE - 1] == SIDE - 2);
     if (which == DECOMPOSITION_CASE || which == DMPERM_CASE)
       CHECK(sizes.rank == SIDE && sizes.blocks == SIDE && sizes.square == SIDE);
-    if (which == BLOCK_ORDER_CASE) CHECK(number == SIDE && lists[2][SIDE] == SIDE);
+    if (which == BLOCK_ORDER_CASE || which == COMPLETE_CASE) CHECK(number == SIDE && lists[2][SIDE] == SIDE);
     if (which == HEAVIEST_CASE) CHECK(sum.low == (uint64_t)SIDE - 1 + 7 && sum.high == 0);
     if (which == BOTTLENECK_CASE) CHECK(least == 1);
     CHECK(call_case_64(which, flags) == BLOCKTRI_OK);
@@ -67,7 +68,7 @@ static void *ring_of_one_block(void *unused) {
     if (which == MATCHING_CASE || which == LEAST_CASE)
       CHECK(lists[0][0] == 0 && lists[0][SIDE - 1] == SIDE - 1);
     if (which == DECOMPOSITION_CASE || which == DMPERM_CASE) CHECK(sizes.blocks == 1 && sizes.square == SIDE);
-    if (which == BLOCK_ORDER_CASE) CHECK(number == 1 && lists[2][1] == SIDE);
+    if (which >= BLOCK_ORDER_CASE && which <= ORDER_BY_CASE) CHECK(number == 1 && lists[2][1] == SIDE);
     if (which == HEAVIEST_CASE) CHECK(sum.low == 3 * (uint64_t)SIDE && sum.high == 0);
     if (which == BOTTLENECK_CASE) CHECK(least == 3);
   }
