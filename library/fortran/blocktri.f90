@@ -1,7 +1,7 @@
 ! blocktri.f90: the calls of blocktri.h for Fortran 2018. Compile it with your program and link with -lblocktri; it includes
 ! blocktri_calls.inc, which stands beside it.
 !
-! blocktri.h is the reference. Each call exists twice, and each takes integers of 32 or of 64 bits under one name:
+! blocktri.h is the reference. Each call but blocktri_order_by exists twice, for integers of 32 or of 64 bits under one name:
 !
 !   blocktri_rank, ..      rows, columns, starts, places and components count from 1, and 0 stands for none. THESE CALLS COPY:
 !                          they read copies of starts and ids that count from 0, and go once over each list that they give.
